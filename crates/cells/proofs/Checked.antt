@@ -1,0 +1,210 @@
+-- The test of a record says what a cell is, both ways; and along each axis the first and the last vertex tell of all.
+use mathlib.Core.Bool.{Bool, true, false, cond, _&&_}
+use mathlib.Core.Logic.{_⊎_, inl, inr}
+use mathlib.Core.Path.{_≡_, refl, sym, ap, subst, _∙_}
+use Prim.Native.Nat.{ℕ, _+_, _-_, _<_, _≤_}
+use native.Mathlib.Omega.{arith}
+use lib.Dec.{eqb, leb, ltb}
+use lib.IntN.{ℤ, pos, negsuc, _+ℤ_}
+use lib.ListN.{length}
+use lib.Signed.{leZ}
+use Rattle.std.proofs.shelf.Lists.{getD-past}
+use Rattle.std.proofs.shelf.Signed.{ints}
+use Rattle.std.proofs.shelf.Tests.{and-from, and-parts, cases-lt, eq-eqb, eqb-true, le-leb, leb-true}
+use Rattle.std.proofs.shelf.Ways.{tells}
+use Rattle.grid.specs.Below.{allBelow}
+use Rattle.grid.proofs.Below.{all-at, all-from, some-at, some-from}
+use Rattle.cells.specs.Cells.{baseOk, coordinateOk, inPart, isCell, IsCell, isPartition, isPlaced, isZero, labelOk, nextPartFull, vertexOk}
+use Rattle.cells.specs.Closed.{axisOk, closedCoordinate}
+use Rattle.cells.specs.Records.{baseAt, label}
+use Rattle.cells.specs.Vertices.{coordinate}
+use Rattle.cells.specs.World.{inWorld}
+use Rattle.cells.specs.declared.records.CellRecord.{CellRecord}
+use Rattle.cells.proofs.Walked.{closed-form, Labelled, passed}
+
+-- the partition
+
+pub record Partition (r : CellRecord) : Type 0 where
+  pub d-low : 2 ≤ r .d
+  pub d-high : r .d ≤ 6
+  pub l-high : r .l ≤ r .d
+  pub labels-long : length (r .labels) ≡ 7
+  pub each : (j : ℕ) → j < 7 → labelOk r j ≡ true
+  pub last : label r (r .d) ≡ r .l + 1
+  pub filled : (p : ℕ) → p < r .l + 1 → nextPartFull r p ≡ true
+
+pub partition-from : (r : CellRecord) → isPartition r ≡ true → Partition r
+partition-from r h = record {
+  d-low = grind (arith, tells);
+  d-high = grind (arith, tells);
+  l-high = grind (arith, tells);
+  labels-long = grind (arith, tells);
+  each = all-at (labelOk r) 7 each;
+  last = grind (arith, tells);
+  filled = all-at (nextPartFull r) (r .l + 1) filled;
+}
+  where
+    each : allBelow (labelOk r) 7 ≡ true
+    each = grind (arith, tells)
+
+    filled : allBelow (nextPartFull r) (r .l + 1) ≡ true
+    filled = grind (arith, tells)
+
+partition-to : (r : CellRecord) → Partition r → isPartition r ≡ true
+partition-to r p =
+    let each = all-from (labelOk r) 7 (p .each) in
+    let filled = all-from (nextPartFull r) (r .l + 1) (p .filled) in
+    let a = le-leb _ _ (p .d-low) in
+    let b = le-leb _ _ (p .d-high) in
+    let c = le-leb _ _ (p .l-high) in
+    let e = eq-eqb _ _ (p .labels-long) in
+    let f = eq-eqb _ _ (p .last) in
+    grind (arith, a, b, c, e, each, f, filled)
+
+parted : (r : CellRecord) → Partition r → (j : ℕ) → j ≤ r .d → (1 ≤ label r j) × (label r j ≤ r .l + 1)
+parted r p j h =
+    let high = p .d-high in
+    let e = p .each j (omega arith) in
+    (grind (arith, tells), grind (arith, tells))
+
+labels-rest : (r : CellRecord) → Partition r → (j : ℕ) → r .d < j → label r j ≡ 0
+labels-rest r p j h = elim (cases-lt j 7) [ inl g ↦ (let e = p .each j g in grind (arith, tells)) | inr g ↦ (let n = p .labels-long in getD-past (r .labels) j 0 (omega arith)) ]
+
+full : (r : CellRecord) → Partition r → (p : ℕ) → 1 ≤ p → p ≤ r .l + 1 → (j : ℕ) × (j ≤ r .d) × (label r j ≡ p)
+full r t p h g =
+    let f = some-at (inPart r (p - 1 + 1)) (r .d + 1) (t .filled (p - 1) (omega arith)) in
+    let u : label r (f .0) ≡ p - 1 + 1 = eqb-true _ _ (f .2) in
+    (f .0, omega arith, omega arith)
+
+pub labelled : (r : CellRecord) → Partition r → Labelled r
+labelled r p = record { used = λ a h. parted r p a (omega arith); last = p .last }
+
+-- the place in the world
+
+pub record Placed (r : CellRecord) : Type 0 where
+  pub base-long : length (r .base) ≡ 6
+  pub zeros : (a : ℕ) → a < 6 → baseOk r a ≡ true
+  pub world : (i a : ℕ) → i ≤ r .l → a < r .d → inWorld (coordinate r i a) ≡ true
+
+placed-from : (r : CellRecord) → isPlaced r ≡ true → Placed r
+placed-from r h = record {
+  base-long = grind (arith, tells);
+  zeros = all-at (baseOk r) 6 zeros;
+  world = λ i a g k. all-at (coordinateOk r i) (r .d) (all-at (vertexOk r) (r .l + 1) world i (omega arith)) a k;
+}
+  where
+    zeros : allBelow (baseOk r) 6 ≡ true
+    zeros = grind (arith, tells)
+
+    world : allBelow (vertexOk r) (r .l + 1) ≡ true
+    world = grind (arith, tells)
+
+placed-to : (r : CellRecord) → Placed r → isPlaced r ≡ true
+placed-to r p =
+    let zeros = all-from (baseOk r) 6 (p .zeros) in
+    let world = all-from (vertexOk r) (r .l + 1) (λ i h. all-from (coordinateOk r i) (r .d) (λ a g. p .world i a (omega arith) g)) in
+    let n = eq-eqb _ _ (p .base-long) in
+    grind (arith, n, zeros, world)
+
+zero-from : (x : ℤ) → isZero x ≡ true → x ≡ pos 0
+zero-from (pos n) h = grind (arith, tells)
+zero-from (negsuc n) h = grind (arith, tells)
+
+base-rest : (r : CellRecord) → Placed r → (a : ℕ) → r .d ≤ a → baseAt r a ≡ pos 0
+base-rest r p a h = elim (cases-lt a 6) [ inl g ↦ (let e = p .zeros a g in zero-from (baseAt r a) (grind (arith, tells))) | inr g ↦ (let n = p .base-long in getD-past (r .base) a (pos 0) (omega arith)) ]
+
+-- a cell
+
+pub is-cell : (r : CellRecord) → isCell r ≡ true → IsCell r
+unfolding isCell
+is-cell r h =
+    let both = and-parts (isPartition r) (isPlaced r) h in
+    let p = partition-from r (both .0) in
+    let q = placed-from r (both .1) in
+    record {
+      d-low = p .d-low;
+      d-high = p .d-high;
+      l-high = p .l-high;
+      parted = parted r p;
+      full = full r p;
+      last = p .last;
+      world = q .world;
+      labels-long = p .labels-long;
+      labels-rest = labels-rest r p;
+      base-long = q .base-long;
+      base-rest = base-rest r q;
+    }
+
+pub cell-is : (r : CellRecord) → IsCell r → isCell r ≡ true
+unfolding isCell
+cell-is r i = and-from (isPartition r) (isPlaced r) (partition-to r parts) (placed-to r place)
+  where
+    each : (j : ℕ) → j < 7 → labelOk r j ≡ true
+    each j h = elim (cases-lt (r .d) j) [ inl g ↦ (let e = i .labels-rest j g in grind (arith, tells)) | inr g ↦ (let e = i .parted j g in grind (arith, tells)) ]
+
+    filled : (p : ℕ) → p < r .l + 1 → nextPartFull r p ≡ true
+    filled p h =
+        let f = i .full (p + 1) (omega arith) (omega arith) in
+        some-from (inPart r (p + 1)) (r .d + 1) (f .0) (omega arith) (eq-eqb _ _ (f .2))
+
+    parts : Partition r
+    parts = record { d-low = i .d-low; d-high = i .d-high; l-high = i .l-high; labels-long = i .labels-long; each = each; last = i .last; filled = filled }
+
+    zeros : (a : ℕ) → a < 6 → baseOk r a ≡ true
+    zeros a h = elim (cases-lt a (r .d)) [ inl g ↦ grind (arith, tells) | inr g ↦ (let e = i .base-rest a g in grind (arith, tells)) ]
+
+    place : Placed r
+    place = record { base-long = i .base-long; zeros = zeros; world = i .world }
+
+-- one axis
+
+-- between the first vertex and the last a coordinate is one or the other
+between : (x i l : ℕ) (z : ℤ) → i ≤ l → inWorld z ≡ true → inWorld (z +ℤ pos (passed x l)) ≡ true → inWorld (z +ℤ pos (passed x i)) ≡ true
+between x i l z h low high = elim (cases-lt i x) [ inl g ↦ before g | inr g ↦ after g ]
+  where
+    before : i < x → inWorld (z +ℤ pos (passed x i)) ≡ true
+    before g = let n : passed x i ≡ 0 = grind (arith, tells) in let e : z ≡ z +ℤ pos (passed x i) = omega (arith, ints) in subst (λ y. inWorld y ≡ true) e low
+
+    after : x ≤ i → inWorld (z +ℤ pos (passed x i)) ≡ true
+    after g = let n : passed x l ≡ passed x i = grind (arith, tells) in subst (λ m. inWorld (z +ℤ pos m) ≡ true) n high
+
+same-truth : (a b : Bool) → (a ≡ true → b ≡ true) → (b ≡ true → a ≡ true) → a ≡ b
+same-truth true b f g = sym (f refl)
+same-truth false true f g = g refl
+same-truth false false f g = refl
+
+pub placed-by-axes : (r : CellRecord) → Partition r → length (r .base) ≡ 6 → allBelow (axisOk r) 6 ≡ isPlaced r
+placed-by-axes r p n = same-truth (allBelow (axisOk r) 6) (isPlaced r) there back
+  where
+    closed : (i a : ℕ) → i ≤ r .l → a < r .d → coordinate r i a ≡ closedCoordinate r i a
+    closed = closed-form r (labelled r p)
+
+    there : allBelow (axisOk r) 6 ≡ true → isPlaced r ≡ true
+    there h = placed-to r (record { base-long = n; zeros = zeros; world = world })
+      where
+        zeros : (a : ℕ) → a < 6 → baseOk r a ≡ true
+        zeros a g = let e = all-at (axisOk r) 6 h a g in grind (arith, tells)
+
+        world : (i a : ℕ) → i ≤ r .l → a < r .d → inWorld (coordinate r i a) ≡ true
+        world i a g k =
+            let most = p .d-high in
+            let e = all-at (axisOk r) 6 h a (omega arith) in
+            let ends : (inWorld (baseAt r a) && inWorld (closedCoordinate r (r .l) a)) ≡ true = grind (arith, tells) in
+            let both = and-parts (inWorld (baseAt r a)) (inWorld (closedCoordinate r (r .l) a)) ends in
+            subst (λ y. inWorld y ≡ true) (sym (closed i a g k)) (between (label r a) i (r .l) (baseAt r a) g (both .0) (both .1))
+
+    back : isPlaced r ≡ true → allBelow (axisOk r) 6 ≡ true
+    back h = all-from (axisOk r) 6 axis
+      where
+        q : Placed r
+        q = placed-from r h
+
+        axis : (a : ℕ) → a < 6 → axisOk r a ≡ true
+        axis a g = elim (cases-lt a (r .d)) [ inl k ↦ used k | inr k ↦ (let e = q .zeros a g in grind (arith, tells)) ]
+          where
+            used : a < r .d → axisOk r a ≡ true
+            used k =
+                let first = q .world 0 a (omega arith) k in
+                let last = subst (λ y. inWorld y ≡ true) (closed (r .l) a (omega arith) k) (q .world (r .l) a (omega arith) k) in
+                let both = and-from (inWorld (baseAt r a)) (inWorld (closedCoordinate r (r .l) a)) first last in
+                grind (arith, tells)

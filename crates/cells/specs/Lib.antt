@@ -1,0 +1,9 @@
+pub mod World
+pub mod Records
+pub mod Sums
+pub mod Vertices
+pub mod Cells
+pub mod Closed
+pub mod Chains
+pub mod Laws
+pub mod Texts

@@ -1,0 +1,7 @@
+pub mod Below
+pub mod Filled
+pub mod Padded
+pub mod Printed
+pub mod Vertexes
+pub mod Framed
+pub mod Places

@@ -1,0 +1,6 @@
+pub mod Below
+pub mod Faults
+pub mod Refusals
+pub mod Vertices
+pub mod Frames
+pub mod Boxes

@@ -1,0 +1,78 @@
+// Making a frame and reading it.
+ghost use mathlib.Core.Bool.{true};
+ghost use mathlib.Core.Path.{_≡_};
+ghost use lib.ListN.{length};
+ghost use Rattle.grid.specs.Below.{allBelow};
+ghost use Rattle.grid.specs.Frames.{frameAnswer, frameNumbers, isFrame, isSide, sideOk, sidesOf};
+ghost use Rattle.grid.specs.Refusals.{answered};
+use super::Frame;
+use crate::padding::padded;
+use crate::refusals::Refusal;
+
+impl Frame {
+    // A frame of d axes and k rows, with one side for each axis.
+    pub fn new(d: u8, k: u8, sides: &[u16]) -> Result<Frame, Refusal>
+        ensures { λ r. ⌜ answered frameNumbers r ≡ frameAnswer d k (now (sides .entry)) ⌝ }
+    {
+        if !is_frame(d, k, sides) {
+            return Err(Refusal::NotAFrame);
+        }
+        Ok(kept(d, k, sides))
+    }
+
+    pub fn d(&self) -> u8
+        ensures { λ r. ⌜ r ≡ frameNumbers (now (self .entry)) .d ⌝ }
+    {
+        self.d
+    }
+
+    pub fn k(&self) -> u8
+        ensures { λ r. ⌜ r ≡ frameNumbers (now (self .entry)) .k ⌝ }
+    {
+        self.k
+    }
+
+    // The d sides, axis by axis.
+    pub fn sides(&self) -> &[u16]
+        ensures { λ r. ⌜ now r ≡ sidesOf (now (self .entry)) ⌝ }
+    {
+        &self.sides[0..self.d as usize]
+    }
+}
+
+fn is_frame(d: u8, k: u8, sides: &[u16]) -> bool
+    ensures { λ r. ⌜ r ≡ isFrame d k (now (sides .entry)) ⌝ }
+{
+    if d < 2 || d > 6 || k < 1 || k > 3 || k >= d {
+        return false;
+    }
+    sides.len() == d as usize && are_sides(sides)
+}
+
+fn kept(d: u8, k: u8, sides: &[u16]) -> Frame
+    requires { ⌜ isFrame d k (now sides) ≡ true ⌝ }
+    ensures { λ r. ⌜ frameNumbers r ≡ record { d = d; k = k; sides = now (sides .entry) } ⌝ }
+{
+    Frame {
+        d,
+        k,
+        sides: padded(sides, 0),
+    }
+}
+
+fn is_side(side: u16) -> bool
+    ensures { λ r. ⌜ r ≡ isSide side ⌝ }
+{
+    1 <= side && side <= 1000
+}
+
+fn are_sides(sides: &[u16]) -> bool
+    ensures { λ r. ⌜ r ≡ allBelow (sideOk (now (sides .entry))) (length (now (sides .entry))) ⌝ }
+{
+    for side in sides {
+        if !is_side(*side) {
+            return false;
+        }
+    }
+    true
+}

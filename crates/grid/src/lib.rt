@@ -1,0 +1,30 @@
+// The grid that every layer stands on: vertices, frames and their boxes, and the refusals and faults that calls answer with.
+mod faults;
+mod frames;
+mod padding;
+mod refusals;
+mod vertices;
+
+pub use faults::Cause;
+pub use faults::CauseDebug;
+pub use faults::CauseDisplay;
+pub use faults::CauseEq;
+pub use faults::CausePartialEq;
+pub use faults::Fault;
+pub use faults::FaultDebug;
+pub use faults::FaultDisplay;
+pub use faults::FaultEq;
+pub use faults::FaultPartialEq;
+pub use frames::Frame;
+pub use frames::FrameDebug;
+pub use refusals::FaultRefusal;
+pub use refusals::Refusal;
+pub use refusals::RefusalDebug;
+pub use refusals::RefusalDisplay;
+pub use refusals::RefusalEq;
+pub use refusals::RefusalPartialEq;
+pub use vertices::Vertex;
+pub use vertices::VertexDebug;
+pub use vertices::VertexDisplay;
+pub use vertices::VertexEq;
+pub use vertices::VertexPartialEq;
