@@ -2,16 +2,15 @@
 use mathlib.Core.List.{List, [], _∷_, _++_}
 use mathlib.Core.Logic.{_⊎_, inl, inr}
 use mathlib.Core.Path.{_≡_, refl, sym, ap, subst, _∙_}
-use Prim.Native.Nat.{ℕ, zero, suc, _-_, _<_, _≤_}
+use Prim.Native.Nat.{ℕ, _-_, _<_, _≤_}
 use native.Mathlib.Bridge.{le-prop}
 use native.Mathlib.Nat.{ℕ-set}
-use native.Mathlib.Numerals.{sub-one}
 use native.Mathlib.Omega.{arith}
 use lib.IntN.{ℤ, pos, ℤ-set}
 use lib.ListN.{length, getD, take, drop}
 use Rattle.std.specs.Joined.{joined}
 use Rattle.std.specs.Written.{signed}
-use Rattle.std.proofs.shelf.Lists.{ext-getD, getD-take, length-take-le}
+use Rattle.std.proofs.shelf.Lists.{ext-getD, getD-take, length-take-le, take-rest}
 use Rattle.std.proofs.shelf.Tests.{cases-lt}
 use Rattle.grid.specs.Vertices.{afterSpace, coordinatesOf, spaced}
 use Rattle.grid.specs.declared.vertices.Vertex.{Vertex}
@@ -54,8 +53,7 @@ same-vertex v w e = vertex-from v w axes (ext-getD (pos 0) (v .at) (w .at) (v .l
       | inr g ↦ v .rest j g ∙ sym (w .rest j (omega (arith, axes)))
     ]
 
--- the text of the first d numbers: the first, and the others after spaces
-pub spaced-take : (xs : List ℤ) (d : ℕ) → 1 ≤ d → 1 ≤ length xs → spaced (take d xs) ≡ signed (getD xs 0 (pos 0)) ++ joined afterSpace (take (d - 1) (drop 1 xs))
-spaced-take xs zero h g = absurd (omega arith)
-spaced-take [] (suc d) h g = absurd (omega arith)
-spaced-take (x ∷ xs) (suc d) h g = rw (sub-one (suc d)) refl
+-- the text of some numbers: the first, and the others after spaces
+pub spaced-parts : (xs : List ℤ) → 1 ≤ length xs → signed (getD xs 0 (pos 0)) ++ joined afterSpace (take (length xs - 1) (drop 1 xs)) ≡ spaced xs
+spaced-parts [] h = absurd (omega arith)
+spaced-parts (x ∷ xs) h = ap (λ ys. signed x ++ joined afterSpace ys) (take-rest (x ∷ xs) 1)

@@ -66,8 +66,8 @@ impl Refusal {
 pub impl From<Fault> for Refusal as FaultRefusal {
     ghost converts = { λ fault r. r ≡ Faulty fault };
 
-    fn from(fault: Fault) -> Refusal {
-        Refusal::Faulty(fault)
+    fn from(raised: Fault) -> Refusal {
+        Refusal::Faulty(raised)
     }
 }
 

@@ -1,4 +1,5 @@
 // A cell as it is printed: its base, a space, and its labels as digits.
+ghost use denote.Ref.{now};
 ghost use Rattle.std.specs.Joined.{joined};
 ghost use Rattle.std.specs.Written.{decimal, Prints};
 ghost use Rattle.std.specs.declared.option.Option.the-variants.{Some};
@@ -14,16 +15,32 @@ pub impl fmt::Display for Cell as CellDisplay {
         let Some(base) = self.vertex(0) else {
             return Err(fmt::Error);
         };
-        write!(f, "{base} ")?;
-        write_digits(f, &self.plain.labels[0..self.plain.d as usize + 1])
+        let labels = Digits {
+            numbers: &self.plain.labels[0..self.plain.d as usize + 1],
+        };
+        write!(f, "{base} {labels}")
     }
 }
 
-fn write_digits<W: fmt::Write>(f: &mut fmt::Formatter<W>, labels: &[u8]) -> fmt::Result
-    ensures { λ r. ⌜ Prints (W·Write .took) (now (f .entry)) r (joined decimal (now (labels .entry))) (now (f .exit)) ⌝ }
+// Numbers one after another, with nothing between.
+#[derive(Drop)]
+struct Digits<'a> {
+    numbers: &'a [u8],
+}
+
+impl fmt::Display for Digits<'_> as DigitsDisplay {
+    ghost shown = { λ x. Some (joined decimal (now (x .numbers))) };
+
+    fn fmt<W: fmt::Write>(&self, f: &mut fmt::Formatter<W>) -> fmt::Result {
+        write_digits(f, self.numbers)
+    }
+}
+
+fn write_digits<W: fmt::Write>(f: &mut fmt::Formatter<W>, numbers: &[u8]) -> fmt::Result
+    ensures { λ r. ⌜ Prints (W·Write .took) (now (f .entry)) r (joined decimal (now (numbers .entry))) (now (f .exit)) ⌝ }
 {
-    for label in labels {
-        write!(f, "{label}")?;
+    for number in numbers {
+        write!(f, "{number}")?;
     }
     Ok(())
 }

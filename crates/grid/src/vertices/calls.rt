@@ -37,11 +37,17 @@ pub impl PartialEq<Vertex> for Vertex as VertexPartialEq {
     ghost equals = { λ x y r. Decides r (x ≡ y) };
 
     fn eq(&self, other: &Vertex) -> bool {
-        if self.d != other.d {
-            return false;
-        }
-        self.at == other.at
+        are_same(self, other)
     }
+}
+
+fn are_same(v: &Vertex, w: &Vertex) -> bool
+    ensures { λ r. ⌜ Decides r (now (v .entry) ≡ now (w .entry)) ⌝ }
+{
+    if v.d != w.d {
+        return false;
+    }
+    v.at == w.at
 }
 
 fn kept(numbers: &[i32]) -> Vertex

@@ -10,10 +10,18 @@ pub impl fmt::Display for Vertex as VertexDisplay {
     ghost shown = { λ v. Some (spaced (coordinatesOf v)) };
 
     fn fmt<W: fmt::Write>(&self, f: &mut fmt::Formatter<W>) -> fmt::Result {
-        let first = &self.at[0];
-        write!(f, "{first}")?;
-        write_after_spaces(f, &self.at[1..self.d as usize])
+        write_spaced(f, self.coordinates())
     }
+}
+
+fn write_spaced<W: fmt::Write>(f: &mut fmt::Formatter<W>, numbers: &[i32]) -> fmt::Result
+    ensures { λ r. ⌜ Prints (W·Write .took) (now (f .entry)) r (spaced (now (numbers .entry))) (now (f .exit)) ⌝ }
+{
+    let [first, others @ ..] = numbers else {
+        return Ok(());
+    };
+    write!(f, "{first}")?;
+    write_after_spaces(f, others)
 }
 
 fn write_after_spaces<W: fmt::Write>(f: &mut fmt::Formatter<W>, numbers: &[i32]) -> fmt::Result
