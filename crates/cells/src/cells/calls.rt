@@ -41,21 +41,21 @@ impl Cell {
         ensures value { λ r. ⌜ r ≡ now (self .entry) .plain .d ⌝ }
         ensures range { λ r. ⌜ (2 ≤ r) × (r ≤ 6) ⌝ }
     {
-        self.plain.d
+        self.record().d
     }
 
     pub fn dimension(&self) -> u8
         ensures value { λ r. ⌜ r ≡ now (self .entry) .plain .l ⌝ }
         ensures range { λ r. ⌜ r ≤ now (self .entry) .plain .d ⌝ ∗ ⌜ r ≤ 6 ⌝ }
     {
-        self.plain.l
+        self.record().l
     }
 
     // Vertex i, for i from 0 to the cell's dimension.
     pub fn vertex(&self, i: u8) -> Option<Vertex>
         ensures { λ r. ⌜ mapped coordinatesOf r ≡ vertexAnswer (now (self .entry) .plain) i ⌝ }
     {
-        if i > self.plain.l {
+        if i > self.dimension() {
             return None;
         }
         vertex_at(self, i)
