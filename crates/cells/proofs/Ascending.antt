@@ -1,7 +1,7 @@
 -- The vertices of a cell ascend: from one vertex to the next the axes of one part rise, each axis once.
 use mathlib.Core.Bool.{true}
 use mathlib.Core.Logic.{_⊎_, inl, inr}
-use mathlib.Core.Path.{_≡_, sym, subst, _∙_}
+use mathlib.Core.Path.{_≡_, refl, sym, subst, _∙_}
 use Prim.Native.Nat.{ℕ, _+_, _<_, _≤_}
 use native.Mathlib.Omega.{arith}
 use lib.IntN.{ℤ, pos, _+ℤ_}
@@ -13,11 +13,20 @@ use Rattle.cells.specs.Cells.{IsCell}
 use Rattle.cells.specs.Chains.{Ascends}
 use Rattle.cells.specs.Records.{baseAt, label}
 use Rattle.cells.specs.Vertices.{coordinate}
+use Rattle.cells.specs.World.{inWorld}
 use Rattle.cells.specs.declared.records.CellRecord.{CellRecord}
 use Rattle.cells.proofs.Walked.{closed-form, Labelled, passed}
 
 pub cell-labelled : (r : CellRecord) → IsCell r → Labelled r
 cell-labelled r c = record { used = λ a h. c .parted a (omega arith); last = c .last }
+
+-- no label is above l + 1, and each number of the base is in the world, at the unused places too
+
+pub label-le : (r : CellRecord) → IsCell r → (j : ℕ) → label r j ≤ r .l + 1
+label-le r c j = elim (cases-lt (r .d) j) [ inl g ↦ (let e = c .labels-rest j g in omega arith) | inr g ↦ c .parted j g .1 ]
+
+pub base-in-world : (r : CellRecord) → IsCell r → (j : ℕ) → inWorld (baseAt r j) ≡ true
+base-in-world r c j = elim (cases-lt j (r .d)) [ inl g ↦ c .world 0 j (omega arith) g | inr g ↦ (rw (c .base-rest j g) refl) ]
 
 passed-up : (x i : ℕ) → passed x i ≤ passed x (i + 1)
 passed-up x i = grind (arith, tells)

@@ -63,8 +63,11 @@ coordinateOk r i a = inWorld (coordinate r i a)
 abbrev pub vertexOk : CellRecord → ℕ → Bool
 vertexOk r i = allBelow (coordinateOk r i) (r .d)
 
+abbrev pub allInWorld : CellRecord → Bool
+allInWorld r = allBelow (vertexOk r) (r .l + 1)
+
 abbrev pub isPlaced : CellRecord → Bool
-isPlaced r = eqb (length (r .base)) 6 && allBelow (baseOk r) 6 && allBelow (vertexOk r) (r .l + 1)
+isPlaced r = eqb (length (r .base)) 6 && allBelow (baseOk r) 6 && allInWorld r
 
 unfoldable pub isCell : CellRecord → Bool
 isCell r = isPartition r && isPlaced r

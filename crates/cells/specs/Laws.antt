@@ -4,6 +4,7 @@ use mathlib.Core.Path.{_≡_}
 use Rattle.cells.specs.Cells.{isCell, IsCell}
 use Rattle.cells.specs.Chains.{Ascends}
 use Rattle.cells.specs.Closed.{ClosedForm, LeadsBack}
+use Rattle.cells.specs.Triangulation.{Triangulation}
 use Rattle.cells.specs.Vertices.{coordinate, verticesOf}
 use Rattle.cells.specs.declared.records.CellRecord.{CellRecord}
 
@@ -18,3 +19,5 @@ pub record CellLaws (r : CellRecord) : Type 0 where
   pub ascends : Ascends (r .d) (r .l) (coordinate r)
   -- equal vertices mean equal cells
   pub only : (s : CellRecord) → isCell s ≡ true → verticesOf s ≡ verticesOf r → s ≡ r
+  -- the cells are the simplices of the Freudenthal-Kuhn triangulation
+  pub simplices : Triangulation

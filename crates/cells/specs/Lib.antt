@@ -5,5 +5,13 @@ pub mod Vertices
 pub mod Cells
 pub mod Closed
 pub mod Chains
+pub mod Triangulation
 pub mod Laws
 pub mod Texts
+pub mod Chosen
+pub mod Facets
+pub mod Splits
+pub mod Spread
+pub mod Cofacets
+pub mod Pairs
+pub mod Faces

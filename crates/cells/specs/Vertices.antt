@@ -2,7 +2,7 @@
 use mathlib.Core.Bool.{cond}
 use mathlib.Core.List.{List}
 use Prim.Native.Nat.{ℕ, zero, suc, _+_}
-use lib.Dec.{eqb, leb}
+use lib.Dec.{eqb, leb, ltb}
 use lib.IntN.{ℤ, pos, negsuc, _+ℤ_}
 use Rattle.std.specs.declared.option.Option.{Option}
 use Rattle.std.specs.declared.option.Option.the-variants.{Some, None}
@@ -30,6 +30,10 @@ coordinate r (suc i) a = coordinate r i a +ℤ partStep r (suc i) a
 
 abbrev pub vertexOf : CellRecord → ℕ → List ℤ
 vertexOf r i = table (r .d) (coordinate r i)
+
+-- the same with 0 past the axes, as a record holds it
+abbrev pub paddedCoordinate : CellRecord → ℕ → ℕ → ℤ
+paddedCoordinate r i a = cond (ltb a (r .d)) (coordinate r i a) (pos 0)
 
 abbrev pub verticesOf : CellRecord → List (List ℤ)
 verticesOf r = table (r .l + 1) (vertexOf r)

@@ -1,6 +1,9 @@
 // A cell: a record that is one.
 mod calls;
+mod cofacets;
 mod display;
+mod facets;
+mod pairs;
 
 ghost use mathlib.Core.Bool.{true};
 ghost use mathlib.Core.Path.{_≡_};

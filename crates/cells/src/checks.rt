@@ -78,7 +78,7 @@ fn are_parts_full(r: &CellRecord) -> bool
 }
 
 // Whether all vertices lie in the world.
-fn is_placed(r: &CellRecord) -> bool
+pub fn is_placed(r: &CellRecord) -> bool
     requires { ⌜ isPartition (now r) ≡ true ⌝ ∗ ⌜ length (now r .base) ≡ 6 ⌝ }
     ensures { λ b. ⌜ b ≡ isPlaced (now (r .entry)) ⌝ }
 {

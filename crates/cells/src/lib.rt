@@ -2,6 +2,7 @@
 mod cells;
 mod checks;
 mod records;
+mod splits;
 mod world;
 
 pub use cells::Cell;

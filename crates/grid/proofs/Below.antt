@@ -1,13 +1,16 @@
 -- Tests of the numbers below a bound say what they say of each number; a table holds its function at each place.
-use mathlib.Core.Bool.{Bool, true, false, _&&_, _||_}
+use mathlib.Core.Bool.{Bool, true, false, cond, _&&_, _||_}
 use mathlib.Core.List.{List}
-use mathlib.Core.Path.{_≡_, refl, _∙_}
+use mathlib.Core.Path.{_≡_, refl, ap, _∙_}
 use Prim.Native.Nat.{ℕ, _+_, _<_, _≤_}
 use native.Mathlib.Nat.{zero-add}
 use native.Mathlib.Numerals.{add-one}
-use lib.ListN.{length, getD}
+use native.Mathlib.Omega.{arith}
+use lib.Dec.{ltb}
+use lib.ListN.{length, getD, take}
 use Rattle.std.proofs.shelf.Counted.{fill-by-all, length-map-counting, getD-map-counting}
-use Rattle.std.proofs.shelf.Lists.{getD-past}
+use Rattle.std.proofs.shelf.Lists.{getD-past, getD-take, length-take-le}
+use Rattle.std.proofs.shelf.Tests.{lt-ltb}
 use Rattle.std.proofs.shelf.Ways.{decides-below-and, decides-below-or}
 use Rattle.grid.specs.Below.{allBelow, someBelow, table}
 
@@ -75,3 +78,12 @@ table-from n f xs o e h = fill-by-all f xs n o e h
 
 pub same-table : {X : Type 0} (n : ℕ) (f g : ℕ → X) (o : X) → ((k : ℕ) → k < n → f k ≡ g k) → table n f ≡ table n g
 same-table n f g o h = table-from n g (table n f) o (length-table n f) (λ k e. getD-table n f k o e ∙ h k e)
+
+-- a table with one value past place m, cut at m
+pub front-table : {X : Type 0} (n m : ℕ) (f : ℕ → X) (o : X) → m ≤ n → take m (table n (λ k. cond (ltb k m) (f k) o)) ≡ table m f
+front-table n m f o h =
+    let xs = table n (λ k. cond (ltb k m) (f k) o) in
+    let long = length-table n (λ k. cond (ltb k m) (f k) o) in
+    let le : m ≤ length (table n (λ k. cond (ltb k m) (f k) o)) = omega arith in
+    table-from m f (take m xs) o (length-take-le m xs le) (λ k g.
+      getD-take m xs k o g ∙ getD-table n (λ k. cond (ltb k m) (f k) o) k o (omega arith) ∙ ap (λ b. cond b (f k) o) (lt-ltb k m g))

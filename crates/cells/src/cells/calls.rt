@@ -1,16 +1,16 @@
 // Making a cell and asking for its vertices.
 ghost use mathlib.Core.Bool.{true};
 ghost use mathlib.Core.Path.{_≡_};
-ghost use Prim.Native.Nat.{_≤_};
-ghost use lib.ListN.{take};
+ghost use Prim.Native.Nat.{_<_, _≤_};
 ghost use Rattle.std.specs.Options.{mapped};
 ghost use Rattle.std.specs.Results.{Cases};
 ghost use Rattle.std.specs.declared.option.Option.the-variants.{Some};
+ghost use Rattle.grid.specs.Below.{table};
 ghost use Rattle.grid.specs.Refusals.{answered};
 ghost use Rattle.grid.specs.Vertices.{coordinatesOf};
 ghost use Rattle.cells.specs.Cells.{cellAnswer, isCell, IsCell};
 ghost use Rattle.cells.specs.Laws.{CellLaws};
-ghost use Rattle.cells.specs.Vertices.{vertexAnswer, vertexOf};
+ghost use Rattle.cells.specs.Vertices.{paddedCoordinate, vertexAnswer, vertexOf};
 use super::Cell;
 use crate::checks::coordinate;
 use crate::checks::is_cell;
@@ -52,17 +52,18 @@ impl Cell {
     }
 
     // Vertex i, for i from 0 to the cell's dimension.
-    pub fn vertex(&self, i: u8) -> Option<Vertex>
+    pub fn vertex(&self, i: u32) -> Option<Vertex>
         ensures { λ r. ⌜ mapped coordinatesOf r ≡ vertexAnswer (now (self .entry) .plain) i ⌝ }
     {
-        if i > self.dimension() {
+        if i > u32::from(self.dimension()) {
             return None;
         }
-        vertex_at(self, i)
+        vertex_at(self, i as u8)
     }
 }
 
-fn made(plain: CellRecord) -> Cell
+// A record that is known to be a cell, as one.
+pub(crate) fn made(plain: CellRecord) -> Cell
     requires { ⌜ isCell plain ≡ true ⌝ }
     ensures same { λ r. ⌜ r .plain ≡ plain ⌝ }
     ensures laws { λ _. ⌜ CellLaws plain ⌝ }
@@ -78,14 +79,25 @@ fn vertex_at(cell: &Cell, i: u8) -> Option<Vertex>
     Vertex::new(&at[0..cell.plain.d as usize])
 }
 
-// The coordinates of vertex i in the first d places.
-fn coordinates(cell: &Cell, i: u8) -> [i32; 6]
+// The coordinates of vertex i, with 0 past the axes.
+pub(crate) fn coordinates(cell: &Cell, i: u8) -> [i32; 6]
     requires { ⌜ i ≤ now cell .plain .l ⌝ }
-    ensures { λ r. ⌜ take (now (cell .entry) .plain .d) r ≡ vertexOf (now (cell .entry) .plain) i ⌝ }
+    ensures { λ r. ⌜ r ≡ table 6 (paddedCoordinate (now (cell .entry) .plain) i) ⌝ }
 {
     let mut at = [0; 6];
-    for a in 0..cell.plain.d as usize {
-        at[a] = coordinate(&cell.plain, i, a);
+    for a in 0..6 {
+        at[a] = coordinate_or_0(cell, i, a);
     }
     at
+}
+
+fn coordinate_or_0(cell: &Cell, i: u8, a: usize) -> i32
+    requires { ⌜ i ≤ now cell .plain .l ⌝ ∗ ⌜ a < 6 ⌝ }
+    ensures { λ r. ⌜ r ≡ paddedCoordinate (now (cell .entry) .plain) i a ⌝ }
+{
+    if a < cell.plain.d as usize {
+        coordinate(&cell.plain, i, a)
+    } else {
+        0
+    }
 }

@@ -1,6 +1,7 @@
 use mathlib.Core.Path.{refl}
 use Rattle.cells.proofs.Ascending.{ascends, cell-labelled}
 use Rattle.cells.proofs.Checked.{is-cell}
+use Rattle.cells.proofs.Matching.{triangulation}
 use Rattle.cells.proofs.Telling.{same-cell}
 use Rattle.cells.proofs.Walked.{closed-form, leads-back}
 use Rattle.cells.proofs.cells.calls.made.Needs as need
@@ -22,5 +23,6 @@ returns c =
         back = leads-back r (cell-labelled r i);
         ascends = ascends r i;
         only = λ s h e. same-cell r s i (is-cell s h) e;
+        simplices = triangulation;
       };
     }
