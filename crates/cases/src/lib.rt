@@ -2,6 +2,8 @@
 #[cfg(test)]
 mod boxes;
 #[cfg(test)]
+mod faces;
+#[cfg(test)]
 mod frames;
 #[cfg(test)]
 mod making;

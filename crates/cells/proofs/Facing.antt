@@ -99,10 +99,10 @@ module _ (r : CellRecord) (c : IsCell r) (one : 1 ≤ r .l) where
 
       labels : (k : ℕ) → k < 7 → label r k ≡ cofacetLabel (facetOf r i) i code k
       labels k g = sym (
-        ap (λ w. cond w (turnedPart i (holds code k) (label (facetOf r i) k)) (splitPart i (holds code k) (label (facetOf r i) k))) stops
-        ∙ ap₂ (splitPart i) (has k g) (label-facet r c i k)
-        ∙ split-united (r .l) i (label r k) low (label-le r c k)
-      )
+          ap (λ w. cond w (turnedPart i (holds code k) (label (facetOf r i) k)) (splitPart i (holds code k) (label (facetOf r i) k))) stops
+          ∙ ap₂ (splitPart i) (has k g) (label-facet r c i k)
+          ∙ split-united (r .l) i (label r k) low (label-le r c k)
+          )
 
       stands : (k : ℕ) → facetBase r i k ≡ baseAt r k
       stands k = elim (cases-lt k (r .d)) [
@@ -112,11 +112,11 @@ module _ (r : CellRecord) (c : IsCell r) (one : 1 ≤ r .l) where
 
       bases : (k : ℕ) → k < 6 → baseAt r k ≡ cofacetBase (facetOf r i) i code k
       bases k g = sym (
-        ap (λ w. baseAt (facetOf r i) k -ℤ pos (cond (w && inB (facetOf r i) i code k) 1 0)) stops
-        ∙ sub-none (baseAt (facetOf r i) k)
-        ∙ base-facet r c i k
-        ∙ stands k
-      )
+          ap (λ w. baseAt (facetOf r i) k -ℤ pos (cond (w && inB (facetOf r i) i code k) 1 0)) stops
+          ∙ sub-none (baseAt (facetOf r i) k)
+          ∙ base-facet r c i k
+          ∙ stands k
+          )
 
       same : r ≡ cofacetBy (facetOf r i) i code
       same = same-record r (cofacetBy (facetOf r i) i code) refl (omega arith) (table-from 6 _ (r .base) (pos 0) (c .base-long) bases) (table-from 7 _ (r .labels) 0 (c .labels-long) labels)
@@ -152,19 +152,19 @@ module _ (r : CellRecord) (c : IsCell r) (one : 1 ≤ r .l) where
 
       labels : (k : ℕ) → k < 7 → label r k ≡ cofacetLabel (facetOf r 0) (r .l) code k
       labels k g = sym (
-        ap (λ w. cond w (turnedPart (r .l) (holds code k) (label (facetOf r 0) k)) (splitPart (r .l) (holds code k) (label (facetOf r 0) k))) turned
-        ∙ ap₂ (turnedPart (r .l)) (has k g) (label-facet r c 0 k)
-        ∙ turn-joined (r .l) (label r k) one (label-le r c k)
-      )
+          ap (λ w. cond w (turnedPart (r .l) (holds code k) (label (facetOf r 0) k)) (splitPart (r .l) (holds code k) (label (facetOf r 0) k))) turned
+          ∙ ap₂ (turnedPart (r .l)) (has k g) (label-facet r c 0 k)
+          ∙ turn-joined (r .l) (label r k) one (label-le r c k)
+          )
 
       down : (k : ℕ) → k < r .d → baseAt r k ≡ cofacetBase (facetOf r 0) (r .l) code k
       down k g =
           let x = c .parted k (omega arith) in
           sym (
-            ap (λ w. baseAt (facetOf r 0) k -ℤ pos (cond (w && inB (facetOf r 0) (r .l) code k) 1 0)) turned
-            ∙ ap₂ (λ m y. baseAt (facetOf r 0) k -ℤ pos (cond (eqb y (r .l) && not m) 1 0)) (has k (omega (arith, c .d-high))) (label-facet r c 0 k)
-            ∙ ap₂ (λ z n. z -ℤ pos n) (base-facet r c 0 k ∙ base-used r 0 k g ∙ closed-form r (cell-labelled r c) 1 k one g) (first-passed (r .l) (label r k) one (x .0) (x .1))
-            ∙ add-sub (baseAt r k) (passed (label r k) 1)
+          ap (λ w. baseAt (facetOf r 0) k -ℤ pos (cond (w && inB (facetOf r 0) (r .l) code k) 1 0)) turned
+          ∙ ap₂ (λ m y. baseAt (facetOf r 0) k -ℤ pos (cond (eqb y (r .l) && not m) 1 0)) (has k (omega (arith, c .d-high))) (label-facet r c 0 k)
+          ∙ ap₂ (λ z n. z -ℤ pos n) (base-facet r c 0 k ∙ base-used r 0 k g ∙ closed-form r (cell-labelled r c) 1 k one g) (first-passed (r .l) (label r k) one (x .0) (x .1))
+          ∙ add-sub (baseAt r k) (passed (label r k) 1)
           )
 
       bases : (k : ℕ) → k < 6 → baseAt r k ≡ cofacetBase (facetOf r 0) (r .l) code k

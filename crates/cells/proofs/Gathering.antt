@@ -205,13 +205,16 @@ as-many d l n v w different has = let h = pigeon (l + 1) (n + 1) f below apart i
 
 pub simplices : (d l : ℕ) (v : ℕ → ℕ → ℤ) → 2 ≤ d → d ≤ 6 → InWorld d l v → Different d l v → Whole d l v → (r : CellRecord) × Spans r d l v
 unfolding Points
-simplices d l v low high world different whole = (made .0, record {
-  cell = made .1 .cell;
-  axes = made .1 .axes;
-  dimension = made .1 .dimension ∙ many;
-  has = λ i h. (let o = s .points .0 i h in (o .0, omega (arith, o .1, many), λ a g. made .1 .same (o .0) a (o .1) g ∙ o .2 a g));
-  only = λ k h. (let b : k ≤ s .top = omega (arith, many) in let o = s .points .1 k b in (o .0, o .1, λ a g. made .1 .same k a b g ∙ o .2 a g));
-})
+simplices d l v low high world different whole = (
+  made .0,
+  record {
+    cell = made .1 .cell;
+    axes = made .1 .axes;
+    dimension = made .1 .dimension ∙ many;
+    has = λ i h. (let o = s .points .0 i h in (o .0, omega (arith, o .1, many), λ a g. made .1 .same (o .0) a (o .1) g ∙ o .2 a g));
+    only = λ k h. (let b : k ≤ s .top = omega (arith, many) in let o = s .points .1 k b in (o .0, o .1, λ a g. made .1 .same k a b g ∙ o .2 a g));
+  },
+)
   where
     s : Sorted d l v
     s = sorted d l v whole

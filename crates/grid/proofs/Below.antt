@@ -86,4 +86,4 @@ front-table n m f o h =
     let long = length-table n (λ k. cond (ltb k m) (f k) o) in
     let le : m ≤ length (table n (λ k. cond (ltb k m) (f k) o)) = omega arith in
     table-from m f (take m xs) o (length-take-le m xs le) (λ k g.
-      getD-take m xs k o g ∙ getD-table n (λ k. cond (ltb k m) (f k) o) k o (omega arith) ∙ ap (λ b. cond b (f k) o) (lt-ltb k m g))
+    getD-take m xs k o g ∙ getD-table n (λ k. cond (ltb k m) (f k) o) k o (omega arith) ∙ ap (λ b. cond b (f k) o) (lt-ltb k m g))

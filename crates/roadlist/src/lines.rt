@@ -12,7 +12,7 @@ use std::fmt;
 
 #[derive(Clone, Copy)]
 pub struct VertexLine {
-    number: u8,
+    number: u32,
     vertex: Vertex,
     place: u64,
 }
@@ -28,7 +28,7 @@ pub impl fmt::Display for VertexLine as VertexLineDisplay {
     }
 }
 
-pub fn vertex_line(frame: &Frame, cell: &Cell, i: u8) -> Option<VertexLine>
+pub fn vertex_line(frame: &Frame, cell: &Cell, i: u32) -> Option<VertexLine>
     ensures { λ r. ⌜ mapped lineNumbers r ≡ lineAnswer (sidesOf (now (frame .entry))) (now (cell .entry) .plain) i ⌝ }
 {
     let vertex = cell.vertex(i)?;

@@ -1,4 +1,4 @@
-// Prints the level that it holds: d and k, the seed cell, and each vertex of the seed with its place in the box.
+// Prints the level that it holds: d and k, the seed cell, each vertex of the seed with its place in the box, and its cofacets.
 mod level;
 mod lines;
 
@@ -24,11 +24,19 @@ fn print_seed(rt: &impl Print, frame: &Frame, seed: &Cell) -> io::Result<()> {
     let k = frame.k();
     println!(rt, "{d} {k}")?;
     println!(rt, "{seed}")?;
-    for i in 0..seed.dimension() + 1 {
-        let Some(line) = lines::vertex_line(frame, seed, i) else {
-            break;
-        };
-        println!(rt, "{line}")?;
+    for i in 0..u32::from(seed.dimension()) + 1 {
+        if let Some(line) = lines::vertex_line(frame, seed, i) {
+            println!(rt, "{line}")?;
+        }
+    }
+    print_cofacets(rt, seed)
+}
+
+fn print_cofacets(rt: &impl Print, seed: &Cell) -> io::Result<()> {
+    for c in 0..seed.cofacets() {
+        if let Ok(cofacet) = seed.cofacet(c) {
+            println!(rt, "{c} {cofacet}")?;
+        }
     }
     Ok(())
 }

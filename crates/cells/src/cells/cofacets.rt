@@ -125,9 +125,5 @@ fn split_part(p: u8, is_a: bool, x: u8) -> u8
     requires { ⌜ x ≤ 7 ⌝ }
     ensures { λ r. ⌜ r ≡ splitPart p «is_a» x ⌝ }
 {
-    if x < p || x == p && is_a {
-        x
-    } else {
-        x + 1
-    }
+    if x < p || x == p && is_a { x } else { x + 1 }
 }

@@ -1,7 +1,7 @@
 // Counting the splits of a cell, and finding one by its number.
 ghost use mathlib.Core.Bool.{true};
 ghost use mathlib.Core.Path.{_≡_};
-ghost use Prim.Native.Nat.{_+_, _<_, _≤_};
+ghost use Prim.Native.Nat.{_+_, _-_, _<_, _≤_};
 ghost use lib.ListN.{length};
 ghost use Rattle.std.specs.Options.{Cases as BySome};
 ghost use Rattle.cells.specs.Cells.{inPart, isCell};
@@ -18,7 +18,7 @@ pub fn holds(code: u8, j: usize) -> bool
     (code >> j) % 2 == 1
 }
 
-// How many splits part p has: one for each set of its numbers but the empty one and the whole part.
+// How many splits part p has.
 fn count_of_part(r: &CellRecord, p: u8) -> u32
     requires { ⌜ isCell (now r) ≡ true ⌝ ∗ ⌜ 1 ≤ p ⌝ ∗ ⌜ p ≤ now r .l + 1 ⌝ }
     ensures { λ n. ⌜ n ≡ length (splitsOf (now (r .entry)) p) ⌝ }
@@ -29,6 +29,14 @@ fn count_of_part(r: &CellRecord, p: u8) -> u32
             sets *= 2;
         }
     }
+    proper_sets(sets)
+}
+
+// Of so many sets all but the empty one and the whole part.
+fn proper_sets(sets: u32) -> u32
+    requires { ⌜ 2 ≤ sets ⌝ }
+    ensures { λ n. ⌜ n ≡ sets - 2 ⌝ }
+{
     sets - 2
 }
 

@@ -34,14 +34,14 @@ returns-then-not-is-placed c =
     let h = c .in-Some .ensures tt .0 in
     let e = cofacet-made r (c .cofacet-record-plain .result) (c .in-Some .split) (c .args .c) (c .cofacet-record-plain .ensures) (c .in-Some .ensures tt .1) in
     let out : allInWorld (cofacetOf r n) ≡ false =
-      sym (cofacet-placed r (is-cell r (c .args .self .now .ok)) n h)
-      ∙ sym (ap isPlaced e)
-      ∙ sym (c .if-not-is-placed .ensures tt) in
+    sym (cofacet-placed r (is-cell r (c .args .self .now .ok)) n h)
+    ∙ sym (ap isPlaced e)
+    ∙ sym (c .if-not-is-placed .ensures tt) in
     record {
       answer = sym (
-        ap (λ b. cond b (cond (allInWorld (cofacetOf r n)) (Ok (cofacetOf r n)) (Err (refusal 4))) (Err (refusal 3))) (lt-ltb n _ h)
-        ∙ ap (λ b. cond b (Ok (cofacetOf r n)) (Err (refusal 4))) out
-      );
+          ap (λ b. cond b (cond (allInWorld (cofacetOf r n)) (Ok (cofacetOf r n)) (Err (refusal 4))) (Err (refusal 3))) (lt-ltb n _ h)
+          ∙ ap (λ b. cond b (Ok (cofacetOf r n)) (Err (refusal 4))) out
+          );
       laws = tt;
     }
 

@@ -21,8 +21,8 @@ mul-sets c = let h = power-le (inPart (c .args .r .now) (c .args .p)) (c .loop-j
 pub loop-j-again : need.loop-j-again
 loop-j-again c = let e = power-more (inPart (c .args .r .now) (c .args .p)) (c .loop-j .j) in grind (arith, tells)
 
-pub sub-result : need.sub-result
-sub-result c =
+pub proper-sets-requires : need.proper-sets-requires
+proper-sets-requires c κs =
     let h = power-two (c .args .r .now) (is-cell _ (c .pre .0)) (c .args .p) (c .pre .1 .0) (c .pre .1 .1) in
     let e : c .loop-j .sets ≡ 2 ^ partSize (c .args .r .now) (c .args .p) = c .loop-j .inv ∙ ap (λ j. 2 ^ length (chosen (inPart (c .args .r .now) (c .args .p)) j)) (omega arith) in
     omega arith
@@ -30,4 +30,4 @@ sub-result c =
 pub returns : need.returns
 returns c =
     let e : c .loop-j .sets ≡ 2 ^ partSize (c .args .r .now) (c .args .p) = c .loop-j .inv ∙ ap (λ j. 2 ^ length (chosen (inPart (c .args .r .now) (c .args .p)) j)) (omega arith) in
-    ap (λ n. n - 2) e ∙ sym (count-of (c .args .r .now) (c .args .p))
+    c .proper-sets .ensures ∙ ap (λ n. n - 2) e ∙ sym (count-of (c .args .r .now) (c .args .p))
