@@ -1,16 +1,14 @@
 -- The test of a record says what a cell is, both ways; and along each axis the first and the last vertex tell of all.
-use mathlib.Core.Bool.{Bool, true, false, cond, _&&_}
-use mathlib.Core.Logic.{_⊎_, inl, inr}
-use mathlib.Core.Path.{_≡_, refl, sym, ap, subst, _∙_}
+use mathlib.Core.Bool.{Bool, true, false, _&&_}
+use mathlib.Core.Logic.{inl, inr}
+use mathlib.Core.Path.{_≡_, refl, sym, subst, _∙_}
 use Prim.Native.Nat.{ℕ, _+_, _-_, _<_, _≤_}
 use native.Mathlib.Omega.{arith}
-use lib.Dec.{eqb, leb, ltb}
 use lib.IntN.{ℤ, pos, negsuc, _+ℤ_}
 use lib.ListN.{length}
-use lib.Signed.{leZ}
 use Rattle.std.proofs.shelf.Lists.{getD-past}
 use Rattle.std.proofs.shelf.Signed.{ints}
-use Rattle.std.proofs.shelf.Tests.{and-from, and-parts, cases-lt, eq-eqb, eqb-true, le-leb, leb-true}
+use Rattle.std.proofs.shelf.Tests.{and-from, and-parts, cases-lt, eq-eqb, eqb-true, le-leb}
 use Rattle.std.proofs.shelf.Ways.{tells}
 use Rattle.grid.specs.Below.{allBelow}
 use Rattle.grid.proofs.Below.{all-at, all-from, some-at, some-from}

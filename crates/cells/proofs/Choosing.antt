@@ -1,11 +1,10 @@
 -- The numbers below a bound that pass a test: which stand where, and how many there are.
-use mathlib.Core.Path.{_≡_, refl, sym, ap, _∙_, subst}
+use mathlib.Core.Path.{_≡_, refl, ap, _∙_}
 use mathlib.Core.Bool.{Bool, true, false, cond}
-use mathlib.Core.Logic.{_⊎_, inl, inr}
+use mathlib.Core.Logic.{inl, inr}
 use mathlib.Core.List.{List, [], _∷_, _++_}
-use Prim.Native.Nat.{ℕ, suc, zero, _+_, _-_, _<_, _≤_}
+use Prim.Native.Nat.{ℕ, suc, zero, _+_, _-_, _<_}
 use native.Mathlib.Omega.{arith}
-use native.Mathlib.Nat.{zero-add, suc-add}
 use native.Mathlib.Numerals.{add-one}
 use lib.ListN.{length, getD}
 use Rattle.std.proofs.shelf.Lists.{length-push, getD-push, getD-append-left}
@@ -31,12 +30,6 @@ nth-cond : (b : Bool) (xs : List ℕ) (y c k : ℕ) → Nth xs c k → Nth (cond
 nth-cond true xs y c k h = nth-front xs y c k h
 nth-cond false xs y c k h = h
 
--- a later bound leaves what stands there
-pub chosen-later : (p : ℕ → Bool) (n m c k : ℕ) → Nth (chosen p n) c k → Nth (chosen p (m + n)) c k
-unfolding chosen
-chosen-later p n zero c k h = rw zero-add h
-chosen-later p n (suc m) c k h = rw suc-add (nth-cond (p (m + n)) (chosen p (m + n)) (m + n) c k (chosen-later p n m c k h))
-
 pub chosen-has : (p : ℕ → Bool) (n k : ℕ) → k < n → p k ≡ true → (c : ℕ) × Nth (chosen p n) c k
 unfolding chosen
 chosen-has p zero k h e = absurd (omega arith)
@@ -53,13 +46,6 @@ pub chosen-at : (p : ℕ → Bool) (n c : ℕ) → c < length (chosen p n) → (
 unfolding chosen
 chosen-at p zero c h = absurd (omega arith)
 chosen-at p (suc n) c h = push-at p n (chosen p n) (p n) refl (chosen-at p n) c h
-
--- n itself passes, and as many pass below it as c says: it is number c, at any later bound
-pub chosen-here : (p : ℕ → Bool) (n c m : ℕ) → p n ≡ true → length (chosen p n) ≡ c → n < m → Nth (chosen p m) c n
-chosen-here p n c m e f h =
-    let w : Nth (chosen p (n + 1)) c n = rw (chosen-more p n, e) (nth-last (chosen p n) n c f) in
-    let g : (m - (n + 1)) + (n + 1) ≡ m = omega arith in
-    subst (λ x. Nth (chosen p x) c n) g (chosen-later p (n + 1) (m - (n + 1)) c n w)
 
 pub chosen-none : (p : ℕ → Bool) → length (chosen p 0) ≡ 0
 unfolding chosen

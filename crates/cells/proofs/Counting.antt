@@ -1,24 +1,17 @@
 -- The splits of a cell: how many each part has, which one a number gives, and that no two are alike.
-use mathlib.Core.Path.{_≡_, refl, sym, ap, ap₂, _∙_, subst}
+use mathlib.Core.Path.{_≡_, sym, ap, ap₂, _∙_, subst}
 use mathlib.Core.Bool.{Bool, true, false, cond}
-use mathlib.Core.Logic.{_⊎_, inl, inr}
-use mathlib.Core.List.{List, [], _∷_, _++_, map}
-use Prim.Native.Nat.{ℕ, suc, zero, _+_, _-_, _*_, _/_, _%_, _^_, _<_, _≤_}
+use Prim.Native.Nat.{ℕ, suc, zero, _+_, _-_, _*_, _^_, _<_, _≤_}
 use native.Mathlib.Omega.{arith}
 use native.Mathlib.Numerals.{add-one}
-use native.Mathlib.Nat.{zero-add, suc-add, mul-le-mul}
-use lib.Dec.{eqb}
 use lib.ListN.{length, getD}
-use Rattle.std.proofs.shelf.Lists.{length-map, getD-map, length-append, getD-append-left, getD-append-right, getD-append-add}
-use Rattle.std.proofs.shelf.Tests.{cases-lt, cases-bool, cases-eq, both-ways, eq-eqb, eqb-true}
-use Rattle.grid.specs.Below.{table}
+use Rattle.std.proofs.shelf.Lists.{length-map, getD-map}
+use Rattle.std.proofs.shelf.Tests.{eq-eqb}
 use Rattle.cells.specs.Chosen.{chosen}
 use Rattle.cells.specs.Cells.{inPart, IsCell}
-use Rattle.cells.specs.Records.{label}
 use Rattle.cells.specs.Splits.{isSplit, noSplit, overParts, partSize, splitAt, splitBy, splits, splitsOf, splitsTo}
 use Rattle.cells.specs.Spread.{spread}
 use Rattle.cells.specs.declared.records.CellRecord.{CellRecord}
-use Rattle.cells.specs.declared.splits.Split.{Split}
 use Rattle.grid.proofs.Below.{length-table, getD-table}
 use Rattle.cells.proofs.Listing.{splits-none, length-more, at-here, at-splits}
 use Rattle.cells.proofs.Choosing.{chosen-none, length-chosen-more, chosen-has}
@@ -83,6 +76,3 @@ found-at r p t c h g k e =
 
 pub splits-le : (r : CellRecord) → IsCell r → length (splits r) ≤ 882
 splits-le r is = let a = count-le r (r .l + 1) in omega (arith, is .d-high, is .l-high)
-
-pub pairs-le : (r : CellRecord) → IsCell r → length (splits r) * (r .l + 2) ≤ 882 * 8
-pairs-le r is = let k : r .l + 2 ≤ 8 = omega (arith, is .d-high, is .l-high) in mul-le-mul (splits-le r is) k

@@ -1,11 +1,11 @@
 -- A cell is a facet of another exactly if the other is one of its cofacets: leaving out a vertex that a split has added gives
 -- the cell back, and splitting the part that two parts were united to gives the other back.
 use mathlib.Core.Bool.{Bool, true, false, cond, not, _&&_}
-use mathlib.Core.Logic.{_⊎_, inl, inr}
+use mathlib.Core.Logic.{inl, inr}
 use mathlib.Core.Path.{_≡_, refl, sym, ap, ap₂, _∙_}
 use Prim.Native.Nat.{ℕ, zero, suc, _+_, _-_, _<_, _≤_}
 use native.Mathlib.Omega.{arith}
-use lib.Dec.{eqb, ltb}
+use lib.Dec.{eqb}
 use lib.IntN.{ℤ, pos, _+ℤ_, _-ℤ_}
 use lib.ListN.{length}
 use Rattle.std.proofs.shelf.Signed.{ints}
@@ -16,7 +16,7 @@ use Rattle.cells.specs.Cells.{IsCell}
 use Rattle.cells.specs.Cofacets.{cofacetBase, cofacetBy, cofacetLabel, cofacetOf, splitPart, turnedPart, turns}
 use Rattle.cells.specs.Facets.{facetBase, facetOf, facetPart}
 use Rattle.cells.specs.Records.{baseAt, label}
-use Rattle.cells.specs.Splits.{holds, inB, splitAt, splitBy, splits}
+use Rattle.cells.specs.Splits.{holds, inB, splitAt, splits}
 use Rattle.cells.specs.Vertices.{coordinate}
 use Rattle.cells.specs.declared.records.CellRecord.{CellRecord}
 use Rattle.cells.specs.declared.splits.Split.{Split}
@@ -25,7 +25,7 @@ use Rattle.cells.proofs.Coding.{code-lt, codeOf, holds-code}
 use Rattle.cells.proofs.Listing.{splits-at, splits-have}
 use Rattle.cells.proofs.Merging.{base-facet, base-unused, base-used, facet-is-cell, label-facet}
 use Rattle.cells.proofs.Recorded.{same-record}
-use Rattle.cells.proofs.Splitting.{added, Divides, divides-from, divides-to, down-base-unused, facet-cofacet}
+use Rattle.cells.proofs.Splitting.{Divides, divides-from, divides-to, down-base-unused, facet-cofacet}
 use Rattle.cells.proofs.Walked.{closed-form, passed}
 
 -- t is the cofacet of s at some split

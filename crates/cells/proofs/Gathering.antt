@@ -1,6 +1,6 @@
 -- Points that no hyperplane parts are the vertices of a cell: they are put into a chain one after another.
 use mathlib.Core.Bool.{Bool, true, false, cond}
-use mathlib.Core.Logic.{_⊎_, inl, inr}
+use mathlib.Core.Logic.{inl, inr}
 use mathlib.Core.Path.{_≡_, refl, sym, ap, subst, _∙_}
 use Prim.Native.Nat.{ℕ, suc, zero, _+_, _-_, _<_, _≤_}
 use native.Mathlib.Omega.{arith}
@@ -13,7 +13,6 @@ use Rattle.grid.specs.Below.{someBelow}
 use Rattle.grid.proofs.Below.{some-at, some-from}
 use Rattle.cells.specs.Chains.{Ascends}
 use Rattle.cells.specs.Triangulation.{Different, InWorld, Spans, Unparted, VerticesAre, Whole}
-use Rattle.cells.specs.Vertices.{coordinate}
 use Rattle.cells.specs.World.{inWorld}
 use Rattle.cells.specs.declared.records.CellRecord.{CellRecord}
 use Rattle.cells.proofs.Chaining.{chains, mono-le}

@@ -1,20 +1,20 @@
 -- The list of the splits, part splitBy part.
 use mathlib.Core.Path.{_≡_, refl, sym, ap, _∙_, subst}
-use mathlib.Core.Bool.{Bool, true, false}
-use mathlib.Core.Logic.{_⊎_, inl, inr}
-use mathlib.Core.List.{List, [], _∷_, _++_, map}
+use mathlib.Core.Bool.{true}
+use mathlib.Core.Logic.{inl, inr}
+use mathlib.Core.List.{_++_}
 use Prim.Native.Nat.{ℕ, suc, zero, _+_, _-_, _<_, _≤_}
 use native.Mathlib.Omega.{arith}
 use native.Mathlib.Numerals.{add-one}
-use native.Mathlib.Nat.{zero-add, suc-add}
+use native.Mathlib.Nat.{zero-add}
 use lib.ListN.{length, getD}
-use Rattle.std.proofs.shelf.Lists.{length-map, getD-map, length-append, getD-append-left, getD-append-right, getD-append-add}
-use Rattle.std.proofs.shelf.Tests.{cases-lt, cases-eq}
+use Rattle.std.proofs.shelf.Lists.{length-map, getD-map, length-append, getD-append-left, getD-append-add}
+use Rattle.std.proofs.shelf.Tests.{cases-lt}
 use Rattle.cells.specs.Chosen.{chosen}
 use Rattle.cells.specs.Splits.{isSplit, noSplit, splitAt, splitBy, splits, splitsOf, splitsTo}
 use Rattle.cells.specs.declared.records.CellRecord.{CellRecord}
 use Rattle.cells.specs.declared.splits.Split.{Split}
-use Rattle.cells.proofs.Choosing.{Nth, chosen-has, chosen-at}
+use Rattle.cells.proofs.Choosing.{chosen-has, chosen-at}
 
 pub splits-none : (r : CellRecord) → length (splitsTo r 0) ≡ 0
 unfolding splitsTo

@@ -1,9 +1,9 @@
 -- The cells are the simplices of the triangulation: no hyperplane parts two vertices of a cell, and the same points, in whatever
 -- order, are the vertices of one cell only.
 use mathlib.Core.Bool.{true}
-use mathlib.Core.List.{List, []}
-use mathlib.Core.Logic.{_⊎_, inl, inr}
-use mathlib.Core.Path.{_≡_, refl, sym, ap, subst, _∙_}
+use mathlib.Core.List.{[]}
+use mathlib.Core.Logic.{inl, inr}
+use mathlib.Core.Path.{_≡_, sym, ap, _∙_}
 use Prim.Native.Nat.{ℕ, _+_, _<_, _≤_}
 use native.Mathlib.Omega.{arith}
 use lib.IntN.{ℤ, pos, _+ℤ_}
@@ -14,7 +14,7 @@ use Rattle.grid.specs.Below.{table}
 use Rattle.grid.proofs.Below.{same-table}
 use Rattle.cells.specs.Cells.{isCell}
 use Rattle.cells.specs.Chains.{Ascends}
-use Rattle.cells.specs.Triangulation.{Different, Spans, Triangulation, Whole}
+use Rattle.cells.specs.Triangulation.{Spans, Triangulation, Whole}
 use Rattle.cells.specs.Vertices.{coordinate, vertexOf, verticesOf}
 use Rattle.cells.specs.declared.records.CellRecord.{CellRecord}
 use Rattle.cells.proofs.Ascending.{ascends}

@@ -1,8 +1,8 @@
 -- A facet of a cell is a cell, and its vertices are those of the cell without one.
-use mathlib.Core.Bool.{Bool, true, false, cond}
-use mathlib.Core.List.{List, [], _∷_, _++_}
-use mathlib.Core.Logic.{_⊎_, inl, inr}
-use mathlib.Core.Path.{_≡_, refl, sym, ap, ap₂, subst, _∙_}
+use mathlib.Core.Bool.{true, cond}
+use mathlib.Core.List.{List, []}
+use mathlib.Core.Logic.{inl, inr}
+use mathlib.Core.Path.{_≡_, sym, ap, ap₂, subst, _∙_}
 use Prim.Native.Nat.{ℕ, zero, suc, _+_, _-_, _<_, _≤_}
 use native.Mathlib.Omega.{arith}
 use lib.Dec.{eqb, eqb·suc-zero, leb, ltb}
@@ -12,7 +12,6 @@ use Rattle.std.proofs.shelf.Lists.{ext-getD, getD-append-left, getD-append-righ
 use Rattle.std.proofs.shelf.Signed.{ints}
 use Rattle.std.proofs.shelf.Tests.{cases-lt, le-ltb, lt-ltb}
 use Rattle.std.proofs.shelf.Ways.{tells}
-use Rattle.grid.specs.Below.{table}
 use Rattle.grid.proofs.Below.{getD-table, length-table, past-table, same-table}
 use Rattle.cells.specs.Cells.{IsCell}
 use Rattle.cells.specs.Faces.{without}

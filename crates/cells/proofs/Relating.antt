@@ -1,15 +1,13 @@
 -- What holds of the answers of facet and cofacet, and of all cofacets of a cell.
-use mathlib.Core.Bool.{Bool, true, false}
-use mathlib.Core.Logic.{_⊎_, inl, inr}
+use mathlib.Core.Bool.{true}
+use mathlib.Core.Logic.{inl, inr}
 use mathlib.Core.Path.{_≡_, refl, sym, ap, subst, _∙_}
 use Prim.Native.Nat.{ℕ, _+_, _-_, _<_, _≤_}
 use native.Mathlib.Omega.{arith}
 use lib.Dec.{eqb}
 use lib.ListN.{length}
-use Rattle.std.specs.declared.result.Result.{Result}
 use Rattle.std.specs.declared.result.Result.the-variants.{Ok}
 use Rattle.std.proofs.shelf.Tests.{cases-lt, eq-eqb, eqb-true, ne-eqb}
-use Rattle.grid.specs.Refusals.{RefusalNumbers}
 use Rattle.grid.proofs.Below.{length-table}
 use Rattle.cells.specs.Cells.{allInWorld, isCell, IsCell, isPartition, isPlaced}
 use Rattle.cells.specs.Cofacets.{cofacetBase, cofacetBy, cofacetOf}

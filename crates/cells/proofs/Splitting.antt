@@ -1,15 +1,14 @@
 -- A split of a part, and the labels and the base of its cofacet. Left out again, the new vertex gives the cell back.
 use mathlib.Core.Bool.{Bool, true, false, cond, not, _&&_, _||_}
-use mathlib.Core.Logic.{_⊎_, inl, inr}
+use mathlib.Core.Logic.{inl, inr}
 use mathlib.Core.Path.{_≡_, refl, sym, ap, ap₂, _∙_}
 use Prim.Native.Nat.{ℕ, _+_, _-_, _<_, _≤_}
 use native.Mathlib.Omega.{arith}
-use lib.Dec.{eqb, leb, ltb}
+use lib.Dec.{eqb}
 use lib.IntN.{ℤ, pos, _+ℤ_, _-ℤ_}
 use Rattle.std.proofs.shelf.Signed.{ints}
 use Rattle.std.proofs.shelf.Tests.{and-from, and-parts, both-ways, cases-bool, cases-lt, eq-eqb, eqb-true, le-ltb, lt-ltb, ne-eqb, not-from-false, not-true, or-left, or-right}
 use Rattle.std.proofs.shelf.Ways.{tells}
-use Rattle.grid.specs.Below.{allBelow, someBelow, table}
 use Rattle.grid.proofs.Below.{all-at, all-from, getD-table, past-table, some-at, some-from, table-from}
 use Rattle.cells.specs.Cells.{IsCell}
 use Rattle.cells.specs.Cofacets.{cofacetBase, cofacetBy, cofacetLabel, splitPart, turnedPart, turns}

@@ -1,12 +1,10 @@
 -- A loop that spreads a number over the places that pass, bit by bit, and one that counts their sets by doubling.
 use mathlib.Core.Path.{_≡_, refl, sym, ap, ap₂, _∙_, subst}
 use mathlib.Core.Bool.{Bool, true, false, cond}
-use mathlib.Core.Logic.{_⊎_, inl, inr}
-use Prim.Native.Nat.{ℕ, suc, zero, _+_, _-_, _*_, _/_, _%_, _^_, _<_, _≤_}
+use Prim.Native.Nat.{ℕ, suc, _+_, _-_, _*_, _/_, _%_, _^_, _<_, _≤_}
 use native.Mathlib.Omega.{arith}
-use native.Mathlib.Nat.{pow-succ', add-assoc, add-zero, mul-add, mul-assoc}
+use native.Mathlib.Nat.{pow-succ', add-zero, mul-add, mul-assoc}
 use native.Mathlib.Numerals.{add-one}
-use lib.Dec.{eqb}
 use lib.Pow.{pow-mono}
 use lib.ListN.{length}
 use Rattle.cells.specs.Chosen.{chosen}

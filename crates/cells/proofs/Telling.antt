@@ -1,8 +1,7 @@
 -- Equal vertices mean equal cells: vertex 0 is the base, and the vertex at which an axis rises tells its label.
-use mathlib.Core.Bool.{true}
-use mathlib.Core.List.{List, []}
-use mathlib.Core.Logic.{_⊎_, inl, inr}
-use mathlib.Core.Path.{_≡_, refl, sym, ap, _∙_}
+use mathlib.Core.List.{[]}
+use mathlib.Core.Logic.{inl, inr}
+use mathlib.Core.Path.{_≡_, sym, ap, _∙_}
 use Prim.Native.Nat.{ℕ, _+_, _<_, _≤_}
 use native.Mathlib.Omega.{arith}
 use lib.IntN.{ℤ, pos, _+ℤ_}
@@ -11,9 +10,8 @@ use Rattle.std.proofs.shelf.Lists.{ext-getD}
 use Rattle.std.proofs.shelf.Signed.{ints}
 use Rattle.std.proofs.shelf.Tests.{cases-lt}
 use Rattle.std.proofs.shelf.Ways.{tells}
-use Rattle.grid.specs.Below.{table}
 use Rattle.grid.proofs.Below.{getD-table, length-table}
-use Rattle.cells.specs.Cells.{isCell, IsCell}
+use Rattle.cells.specs.Cells.{IsCell}
 use Rattle.cells.specs.Records.{baseAt, label}
 use Rattle.cells.specs.Vertices.{coordinate, vertexOf, verticesOf}
 use Rattle.cells.specs.declared.records.CellRecord.{CellRecord}

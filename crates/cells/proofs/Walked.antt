@@ -1,20 +1,18 @@
 -- The walk along the parts: part p steps once along the axes of its numbers, and once back along all axes if it has the last
 -- number. So a coordinate has grown by one once its part is passed, and is back after the last part.
-use mathlib.Core.Bool.{Bool, true, false, cond}
-use mathlib.Core.Logic.{_⊎_, inl, inr}
-use mathlib.Core.Path.{_≡_, refl, sym, ap, ap₂, _∙_}
+use mathlib.Core.Bool.{cond}
+use mathlib.Core.Path.{_≡_, refl, ap, ap₂, _∙_}
 use Prim.Native.Nat.{ℕ, zero, suc, _+_, _<_, _≤_}
 use native.Mathlib.Numerals.{add-one}
 use native.Mathlib.Omega.{arith}
 use lib.Dec.{eqb, leb}
 use lib.IntN.{ℤ, pos, negsuc, _+ℤ_}
 use Rattle.std.proofs.shelf.Signed.{ints}
-use Rattle.std.proofs.shelf.Tests.{cases-lt, ne-eqb, eq-eqb}
+use Rattle.std.proofs.shelf.Tests.{ne-eqb, eq-eqb}
 use Rattle.std.proofs.shelf.Ways.{tells}
 use Rattle.cells.specs.Closed.{closedCoordinate}
 use Rattle.cells.specs.Records.{baseAt, label}
-use Rattle.cells.specs.Sums.{sumBelow}
-use Rattle.cells.specs.Vertices.{coordinate, numberStep, partStep, stepIn}
+use Rattle.cells.specs.Vertices.{coordinate, partStep, stepIn}
 use Rattle.cells.specs.declared.records.CellRecord.{CellRecord}
 use Rattle.cells.proofs.Summed.{sum-more, sum-one}
 

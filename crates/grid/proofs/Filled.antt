@@ -4,11 +4,11 @@ use mathlib.Core.Path.{_≡_, _∙_}
 use Prim.Native.Nat.{ℕ, _+_, _<_, _≤_}
 use native.Mathlib.Omega.{arith}
 use lib.IntN.{ℤ}
-use lib.ListN.{length, getD, set, take}
+use lib.ListN.{length, getD, set}
 use mir.Syntax.{w32}
 use mir.Val.{SFits, ofZ, toZ}
 use Rattle.std.proofs.shelf.Edits.{fill-by-more}
-use Rattle.std.proofs.shelf.Lists.{getD-take, length-set, length-take-le}
+use Rattle.std.proofs.shelf.Lists.{length-set}
 use Rattle.std.proofs.shelf.Signed.{toZ-ofZ}
 use Rattle.grid.specs.Below.{table}
 use Rattle.grid.proofs.Below.{table-from}
@@ -30,13 +30,6 @@ filled-more {o = o} {f = f} {xs = xs} {i = i} {z = z} h e g =
 -- the same for a signed number, which goes to its bits and back
 pub filled-more-i32 : {o : ℤ} {f : ℕ → ℤ} {n : ℕ} {xs : List ℤ} {i : ℕ} {z : ℤ} → i < n → SFits w32 z → z ≡ f i → Filled o f n xs i → Filled o f n (set xs i (toZ w32 (ofZ w32 z))) (i + 1)
 filled-more-i32 {z = z} h s e g = filled-more h (toZ-ofZ w32 z s ∙ e) g
-
--- a loop that stops at i has filled the first i places
-pub filled-front : {X : Type 0} {o : X} {f : ℕ → X} {n : ℕ} {xs : List X} {i : ℕ} → i ≤ n → Filled o f n xs i → take i xs ≡ table i f
-filled-front {o = o} {f = f} {xs = xs} {i = i} h g =
-    let long = g .long in
-    let le : i ≤ length xs = omega arith in
-    table-from i f (take i xs) o (length-take-le i xs le) (λ k e. getD-take i xs k o e ∙ g .here k e)
 
 pub filled-all : {X : Type 0} {o : X} {f : ℕ → X} {n : ℕ} {xs : List X} {i : ℕ} → n ≤ i → Filled o f n xs i → xs ≡ table n f
 filled-all {o = o} {f = f} {n = n} {xs = xs} h g = table-from n f xs o (g .long) (λ k e. g .here k (omega arith))

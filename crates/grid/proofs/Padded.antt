@@ -1,11 +1,11 @@
 -- Up to six numbers at the front of an array of six, and one number in the places past them.
 use mathlib.Core.List.{List, [], _∷_, _++_}
-use mathlib.Core.Logic.{_⊎_, inl, inr}
+use mathlib.Core.Logic.{inl, inr}
 use mathlib.Core.Path.{_≡_, refl, sym, ap, _∙_}
 use Prim.Native.Nat.{ℕ, _+_, _-_, _<_, _≤_}
 use native.Mathlib.Omega.{arith}
 use lib.ListN.{length, getD, set, take, drop, replicate}
-use Rattle.std.proofs.shelf.Lists.{append-assoc, drop-all, drop-more, drop-replicate, getD-append-left, getD-append-right, getD-past, getD-replicate, length-append, length-replicate, length-take-le, set-at, take-all, take-at, take-more}
+use Rattle.std.proofs.shelf.Lists.{append-assoc, drop-more, drop-replicate, getD-append-left, getD-append-right, getD-past, getD-replicate, length-append, length-replicate, length-take-le, set-at, take-all, take-at, take-more}
 use Rattle.std.proofs.shelf.Tests.{cases-lt}
 
 abbrev pub padded : {X : Type 0} → List X → X → List X

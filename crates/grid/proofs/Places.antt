@@ -3,23 +3,21 @@
 use mathlib.Core.Bool.{Bool, true, false, cond}
 use mathlib.Core.List.{List, [], _∷_}
 use mathlib.Core.Path.{_≡_, refl, sym, ap, ap₂, _∙_}
-use Prim.Native.Nat.{ℕ, zero, suc, _+_, _*_, _-_, _/_, _%_, _^_, _<_, _≤_}
+use Prim.Native.Nat.{ℕ, suc, _+_, _*_, _-_, _/_, _%_, _^_, _<_, _≤_}
 use native.Mathlib.Nat.{add-comm, mul-comm, mul-le-mul-right, pow-le-pow-right, pow-succ'}
 use native.Mathlib.Omega.{arith}
 use native.Mathlib.Numerals.{add-one}
 use lib.Arith.{digits-div, digits-lt, digits-mod}
-use lib.Dec.{eqb}
 use lib.IntN.{ℤ, pos, negsuc, natAbs}
 use lib.ListN.{length, getD, drop}
 use Rattle.std.specs.declared.option.Option.the-variants.{Some, None}
 use Rattle.std.proofs.shelf.Lists.{drop-all, drop-more}
-use Rattle.std.proofs.shelf.Tests.{eqb-true}
 use Rattle.std.proofs.shelf.Ways.{tells}
 use Rattle.grid.specs.Below.{allBelow}
 use Rattle.grid.specs.Boxes.{axisHas, inBox, onAxis, OnlyNumber, placeAnswer, placeNumber, vertexCount}
 use Rattle.grid.specs.Vertices.{coordinatesOf}
 use Rattle.grid.specs.declared.vertices.Vertex.{Vertex}
-use Rattle.grid.proofs.Below.{all-at, all-from}
+use Rattle.grid.proofs.Below.{all-at}
 use Rattle.grid.proofs.Vertexes.{same-vertex}
 
 -- what the test of the box says, both ways
@@ -33,12 +31,6 @@ in-box sides v h = record { axes = grind (arith, tells); each = all-at (axisHas 
   where
     all : allBelow (axisHas sides v) (length sides) ≡ true
     all = grind (arith, tells)
-
-pub box-in : (sides : List ℕ) (v : List ℤ) → InBox sides v → inBox sides v ≡ true
-box-in sides v i =
-    let all : allBelow (axisHas sides v) (length sides) ≡ true = all-from (axisHas sides v) (length sides) (i .each) in
-    let axes = i .axes in
-    grind (arith, tells)
 
 in-box-rest : (s : ℕ) (ss : List ℕ) (x : ℤ) (xs : List ℤ) → InBox (s ∷ ss) (x ∷ xs) → InBox ss xs
 in-box-rest s ss x xs i = record { axes = let e = i .axes in omega arith; each = λ j h. i .each (suc j) (omega arith) }

@@ -1,7 +1,6 @@
 -- The level in plain values.
-use mathlib.Core.List.{List, [], _∷_}
-use Prim.Native.Nat.{ℕ}
-use lib.IntN.{ℤ, pos}
+use mathlib.Core.List.{[], _∷_}
+use lib.IntN.{pos}
 use Rattle.grid.specs.Frames.{FrameNumbers, frameNumbers}
 use Rattle.cells.specs.declared.records.CellRecord.{CellRecord}
 use Rattle.roadlist.specs.declared.level.Level.{Level}

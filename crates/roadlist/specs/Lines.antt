@@ -7,7 +7,7 @@ use lib.IntN.{ℤ}
 use Rattle.std.specs.Options.{mapped}
 use Rattle.std.specs.Written.{decimal}
 use Rattle.std.specs.declared.option.Option.{Option}
-use Rattle.std.specs.declared.option.Option.the-variants.{Some, None}
+use Rattle.std.specs.declared.option.Option.the-variants.{None}
 use Rattle.grid.specs.Boxes.{placeAnswer}
 use Rattle.grid.specs.Vertices.{coordinatesOf, spaced}
 use Rattle.cells.specs.Vertices.{vertexOf}

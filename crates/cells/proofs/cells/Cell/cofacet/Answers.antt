@@ -1,12 +1,11 @@
 use mathlib.Core.Bool.{cond, false, true}
 use mathlib.Core.Path.{_≡_, sym, ap, subst, _∙_}
 use Prim.Native.Nat.{ℕ}
-use lib.Dec.{ltb}
 use lib.ListN.{length}
 use Rattle.std.specs.declared.result.Result.the-variants.{Ok, Err}
 use Rattle.std.proofs.shelf.Tests.{lt-ltb}
 use Rattle.grid.specs.Refusals.{refusal}
-use Rattle.cells.specs.Cells.{allInWorld, isCell, isPartition, isPlaced}
+use Rattle.cells.specs.Cells.{allInWorld, isPartition, isPlaced}
 use Rattle.cells.specs.Cofacets.{cofacetBy, cofacetOf}
 use Rattle.cells.specs.Faces.{CofacetLaws}
 use Rattle.cells.specs.Splits.{splitAt}

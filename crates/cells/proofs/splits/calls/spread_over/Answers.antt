@@ -1,6 +1,5 @@
 use native.Mathlib.Omega.{arith}
-use mathlib.Core.Path.{_≡_, sym, ap, _∙_, subst}
-use Rattle.cells.specs.Cells.{inPart}
+use mathlib.Core.Path.{_∙_}
 use Rattle.cells.proofs.Spreading.{spreads-none, bit-low, spreads-pass, spreads-one, spreads-zero, spreads-all, spreads-to}
 use Rattle.std.proofs.shelf.Tests.{eq-eqb, ne-eqb}
 use Rattle.cells.proofs.splits.calls.spread_over.Needs.{then-r-j, then-rest-eq1, else-rest-eq1, else-r-j}

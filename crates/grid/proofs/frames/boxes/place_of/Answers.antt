@@ -1,8 +1,6 @@
-use mathlib.Core.Bool.{true}
-use mathlib.Core.Path.{_≡_, ap, ap₂, sym, subst, _∙_}
-use Prim.Native.Nat.{ℕ, _<_, _≤_}
+use mathlib.Core.Path.{_≡_, ap₂, sym, subst, _∙_}
+use Prim.Native.Nat.{_<_}
 use native.Mathlib.Omega.{arith}
-use lib.ListN.{length, getD}
 use Rattle.grid.specs.Boxes.{inBox, OnlyNumber, placeNumber, vertexCount}
 use Rattle.grid.specs.Frames.{sidesOf}
 use Rattle.grid.specs.Vertices.{coordinatesOf}

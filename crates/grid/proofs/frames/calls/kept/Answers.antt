@@ -1,9 +1,8 @@
 use mathlib.Core.List.{List}
 use mathlib.Core.Path.{_≡_, ap, _∙_}
-use Prim.Native.Nat.{ℕ, _<_, _≤_}
+use Prim.Native.Nat.{ℕ}
 use native.Mathlib.Omega.{arith}
 use lib.ListN.{length, getD, take}
-use Rattle.grid.specs.Frames.{FrameNumbers}
 use Rattle.grid.proofs.Framed.{framed}
 use Rattle.grid.proofs.Padded.{length-padded, take-padded, getD-padded}
 use Rattle.grid.proofs.frames.calls.kept.Needs as need
