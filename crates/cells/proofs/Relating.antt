@@ -2,7 +2,8 @@
 use mathlib.Core.Bool.{true}
 use mathlib.Core.Logic.{inl, inr}
 use mathlib.Core.Path.{_≡_, refl, sym, ap, subst, _∙_}
-use Prim.Native.Nat.{ℕ, _+_, _-_, _<_, _≤_}
+use Prim.Native.Nat.{ℕ, _+_, _*_, _-_, _<_, _≤_}
+use native.Mathlib.Nat.{mul-le-mul-right}
 use native.Mathlib.Omega.{arith}
 use lib.Dec.{eqb}
 use lib.ListN.{length}
@@ -11,16 +12,16 @@ use Rattle.std.proofs.shelf.Tests.{cases-lt, eq-eqb, eqb-true, ne-eqb}
 use Rattle.grid.proofs.Below.{length-table}
 use Rattle.cells.specs.Cells.{allInWorld, isCell, IsCell, isPartition, isPlaced}
 use Rattle.cells.specs.Cofacets.{cofacetBase, cofacetBy, cofacetOf}
-use Rattle.cells.specs.Faces.{AllCofacets, CofacetLaws, CofacetOf, FacetLaws, without}
+use Rattle.cells.specs.Faces.{AllCofacets, CofacetLaws, CofacetOf, FacetLaws, FacetOf, without}
 use Rattle.cells.specs.Facets.{facetOf}
 use Rattle.cells.specs.Records.{label}
 use Rattle.cells.specs.Splits.{holds, splitAt, splits}
 use Rattle.cells.specs.Vertices.{vertexOf, verticesOf}
 use Rattle.cells.specs.declared.records.CellRecord.{CellRecord}
-use Rattle.cells.proofs.Answering.{cofacet-granted, facet-granted, granted-cofacet}
+use Rattle.cells.proofs.Answering.{cofacet-granted, facet-granted, granted-cofacet, granted-facet}
 use Rattle.cells.proofs.Checked.{is-cell, partition-to, placed-is, world-to}
 use Rattle.cells.proofs.Coding.{code-lt, codeOf, holds-code}
-use Rattle.cells.proofs.Counting.{count-to}
+use Rattle.cells.proofs.Counting.{count-of, count-to}
 use Rattle.cells.proofs.Facing.{added-at, added-le, By, by-facet, facet-back, nth-divides, numbered}
 use Rattle.cells.proofs.Merging.{facet-is-cell, length-without, vertices-facet}
 use Rattle.cells.proofs.Numbering.{one-number}
@@ -38,9 +39,12 @@ cofacet-of-facet t c one i h =
 pub facet-laws : (t : CellRecord) → IsCell t → 1 ≤ t .l → (i : ℕ) → i ≤ t .l → FacetLaws t i (facetOf t i)
 facet-laws t c one i h = record { vertices = vertices-facet t c one i h; back = cofacet-of-facet t c one i h }
 
+facet-of-cofacet : (s : CellRecord) → IsCell s → (n : ℕ) → n < length (splits s) → FacetOf s (cofacetOf s n)
+facet-of-cofacet s c n h = (added-at s n, facet-granted (cofacetOf s n) (added-at s n) (omega arith) (added-le s n h) ∙ ap Ok (sym (facet-back s c n h)))
+
 pub cofacet-laws : (s : CellRecord) → IsCell s → (n : ℕ) → n < length (splits s) → CofacetLaws s n (cofacetOf s n)
 cofacet-laws s c n h = record {
-  back = (added-at s n, facet-granted (cofacetOf s n) (added-at s n) (omega arith) (added-le s n h) ∙ ap Ok (sym (facet-back s c n h)));
+  back = facet-of-cofacet s c n h;
   only = λ m e. (let g = granted-cofacet s m (cofacetOf s n) e in one-number s c m n (g .within) h (g .is));
 }
 
@@ -101,8 +105,28 @@ some-splits s c h = elim (cases-lt 0 (length (splits s))) [ inl g ↦ g | inr g 
             omega arith
 
 pub all-cofacets : (s : CellRecord) → IsCell s → AllCofacets s
-all-cofacets s c = record { all = all; count = count-to s (s .l + 1); some = some-splits s c }
+all-cofacets s c = record {
+  dual = λ t h. (up t (is-cell t h), down t);
+  all = all;
+  of-part = count-of s;
+  count = count-to s (s .l + 1);
+  some = some-splits s c;
+  pairs = λ h. some-pairs (length (splits s)) (s .l + 2) (some-splits s c h) (omega arith);
+}
   where
+    up : (t : CellRecord) → IsCell t → FacetOf s t → CofacetOf t s
+    up t ct f =
+        let g = granted-facet t (f .0) s (f .1) in
+        subst (CofacetOf t) (g .is) (cofacet-of-facet t ct (g .some) (f .0) (g .within))
+
+    down : (t : CellRecord) → CofacetOf t s → FacetOf s t
+    down t f =
+        let g = granted-cofacet s (f .0) t (f .1) in
+        subst (FacetOf s) (g .is) (facet-of-cofacet s c (f .0) (g .within))
+
+    some-pairs : (a b : ℕ) → 0 < a → 0 < b → 0 < a * b
+    some-pairs a b h g = let m : 1 * b ≤ a * b = mul-le-mul-right b h in omega arith
+
     all : (t : CellRecord) (i : ℕ) → isCell t ≡ true → i ≤ t .l → without i (verticesOf t) ≡ verticesOf s → CofacetOf t s
     all t i ht h e = elim (cases-lt 0 (t .l)) [ inl one ↦ found one | inr none ↦ absurd (short none) ]
       where

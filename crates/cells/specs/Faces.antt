@@ -8,7 +8,8 @@ use Rattle.std.specs.declared.result.Result.the-variants.{Ok}
 use Rattle.cells.specs.Cells.{isCell}
 use Rattle.cells.specs.Cofacets.{cofacetAnswer}
 use Rattle.cells.specs.Facets.{facetAnswer}
-use Rattle.cells.specs.Splits.{overParts, partSize, splits}
+use Rattle.cells.specs.Pairs.{pairCount}
+use Rattle.cells.specs.Splits.{overParts, partSize, splits, splitsOf}
 use Rattle.cells.specs.Vertices.{verticesOf}
 use Rattle.cells.specs.declared.records.CellRecord.{CellRecord}
 
@@ -35,9 +36,13 @@ pub record CofacetLaws (s : CellRecord) (c : ℕ) (t : CellRecord) : Type 0 wher
 
 -- what holds of all cofacets of s together
 pub record AllCofacets (s : CellRecord) : Type 0 where
+  -- a cell is answered as a cofacet of s exactly if s is answered as a facet of it
+  pub dual : (t : CellRecord) → isCell t ≡ true → (FacetOf s t → CofacetOf t s) × (CofacetOf t s → FacetOf s t)
   -- a cell that has the vertices of s and one more is a cofacet of s
   pub all : (t : CellRecord) (i : ℕ) → isCell t ≡ true → i ≤ t .l → without i (verticesOf t) ≡ verticesOf s → CofacetOf t s
-  -- a part of n numbers gives 2 ^ n - 2 of them
+  -- a part of n numbers gives 2 ^ n - 2 of them, and s has as many as its parts give
+  pub of-part : (p : ℕ) → length (splitsOf s p) ≡ 2 ^ partSize s p - 2
   pub count : length (splits s) ≡ overParts (λ p. 2 ^ partSize s p - 2) (s .l + 1)
-  -- a cell that is not of full dimension has some
+  -- a cell that is not of full dimension has some, and so it has pairs
   pub some : s .l < s .d → 0 < length (splits s)
+  pub pairs : s .l < s .d → 0 < pairCount s
