@@ -50,3 +50,16 @@ fn a_frame_shows_its_numbers() -> Result<(), Fail> {
     check_eq(frame.k(), 2)?;
     check_eq(frame.sides(), &[4, 5, 6][..])
 }
+
+#[test]
+fn a_frame_takes_the_sides_of_another() -> Result<(), Fail> {
+    let Ok(small) = Frame::new(2, 1, &[4, 5]) else {
+        return Err(Fail::new("refused"));
+    };
+    let Ok(large) = Frame::new(4, 2, &[6, 7, 8, 9]) else {
+        return Err(Fail::new("refused"));
+    };
+    check_eq(small.with_sides_of(&large).sides(), &[6, 7][..])?;
+    check_eq(large.with_sides_of(&small).sides(), &[4, 5, 1, 1][..])?;
+    check_eq(large.with_sides_of(&small).k(), 2)
+}

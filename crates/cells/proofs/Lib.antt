@@ -1,5 +1,4 @@
 pub mod Recorded
-pub mod Summed
 pub mod Walked
 pub mod Checked
 pub mod Ascending

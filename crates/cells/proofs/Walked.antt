@@ -14,7 +14,7 @@ use Rattle.cells.specs.Closed.{closedCoordinate}
 use Rattle.cells.specs.Records.{baseAt, label}
 use Rattle.cells.specs.Vertices.{coordinate, partStep, stepIn}
 use Rattle.cells.specs.declared.records.CellRecord.{CellRecord}
-use Rattle.cells.proofs.Summed.{sum-more, sum-one}
+use Rattle.grid.proofs.Summed.{sum-more, sum-one}
 
 -- what part p adds to coordinate a: x is the label of the axis, y that of the last number
 abbrev pub gained : ℕ → ℕ → ℕ → ℤ

@@ -1,6 +1,5 @@
 pub mod World
 pub mod Records
-pub mod Sums
 pub mod Vertices
 pub mod Cells
 pub mod Closed

@@ -8,7 +8,7 @@ use Rattle.std.specs.declared.option.Option.{Option}
 use Rattle.std.specs.declared.option.Option.the-variants.{Some, None}
 use Rattle.grid.specs.Below.{table}
 use Rattle.cells.specs.Records.{baseAt, label}
-use Rattle.cells.specs.Sums.{sumBelow}
+use Rattle.grid.specs.Sums.{sumBelow}
 use Rattle.cells.specs.declared.records.CellRecord.{CellRecord}
 
 -- how far the number at place j steps along axis a: 1 along its own axis, and the last number, d + 1, -1 along all axes

@@ -87,3 +87,9 @@ front-table n m f o h =
     let le : m ≤ length (table n (λ k. cond (ltb k m) (f k) o)) = omega arith in
     table-from m f (take m xs) o (length-take-le m xs le) (λ k g.
     getD-take m xs k o g ∙ getD-table n (λ k. cond (ltb k m) (f k) o) k o (omega arith) ∙ ap (λ b. cond b (f k) o) (lt-ltb k m g))
+
+pub cut-table : {X : Type 0} (n m : ℕ) (f : ℕ → X) (o : X) → m ≤ n → take m (table n f) ≡ table m f
+cut-table n m f o h =
+    let long = length-table n f in
+    let le : m ≤ length (table n f) = omega arith in
+    table-from m f (take m (table n f)) o (length-take-le m (table n f) le) (λ k g. getD-take m (table n f) k o g ∙ getD-table n f k o (omega arith))

@@ -1,4 +1,5 @@
 pub mod Below
+pub mod Summed
 pub mod Filled
 pub mod Padded
 pub mod Printed

@@ -7,6 +7,8 @@ use native.Mathlib.Omega.{arith}
 use lib.ListN.{length, getD, set, take, drop, replicate}
 use Rattle.std.proofs.shelf.Lists.{append-assoc, drop-more, drop-replicate, getD-append-left, getD-append-right, getD-past, getD-replicate, length-append, length-replicate, length-take-le, set-at, take-all, take-at, take-more}
 use Rattle.std.proofs.shelf.Tests.{cases-lt}
+use Rattle.grid.specs.Below.{table}
+use Rattle.grid.proofs.Below.{table-from}
 
 abbrev pub padded : {X : Type 0} → List X → X → List X
 padded xs o = xs ++ replicate (6 - length xs) o
@@ -45,3 +47,7 @@ getD-padded xs o j = elim (cases-lt j (length xs)) [ inl h ↦ getD-append-left 
 
     past : length xs ≤ j → getD (padded xs o) j o ≡ getD xs j o
     past h = getD-append-right xs (replicate (6 - length xs) o) (length xs) j o refl h ∙ rest (6 - length xs) (j - length xs) ∙ sym (getD-past xs j o h)
+
+-- six places of padding are a table
+pub padded-table : {X : Type 0} (xs : List X) (o : X) → length xs ≤ 6 → padded xs o ≡ table 6 (λ j. getD xs j o)
+padded-table xs o h = table-from 6 (λ j. getD xs j o) (padded xs o) o (length-padded xs o h) (λ j _. getD-padded xs o j)

@@ -6,7 +6,7 @@ use lib.Dec.{leb, ltb, eqb}
 use lib.ListN.{length, getD, take}
 use Rattle.std.specs.declared.result.Result.{Result}
 use Rattle.std.specs.declared.result.Result.the-variants.{Ok, Err}
-use Rattle.grid.specs.Below.{allBelow}
+use Rattle.grid.specs.Below.{allBelow, table}
 use Rattle.grid.specs.Refusals.{RefusalNumbers, refusal}
 use Rattle.grid.specs.declared.frames.Frame.{Frame}
 
@@ -34,3 +34,7 @@ isFrame d k ss = leb 2 d && leb d 6 && leb 1 k && leb k 3 && ltb k d && eqb (len
 -- refusal 2 for numbers that are no frame's
 abbrev pub frameAnswer : ℕ → ℕ → List ℕ → Result FrameNumbers RefusalNumbers
 frameAnswer d k ss = cond (isFrame d k ss) (Ok (record { d = d; k = k; sides = ss })) (Err (refusal 2))
+
+-- the first d sides, and 1 where there are fewer
+abbrev pub fittedSides : ℕ → List ℕ → List ℕ
+fittedSides d ss = table d (λ j. getD ss j 1)

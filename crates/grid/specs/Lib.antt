@@ -1,4 +1,5 @@
 pub mod Below
+pub mod Sums
 pub mod Faults
 pub mod Refusals
 pub mod Vertices

@@ -6,6 +6,7 @@ ghost use mathlib.Core.Path.{_≡_};
 ghost use Prim.Native.Nat.{ℕ, _<_, _≤_};
 ghost use lib.ListN.{getD, length};
 
+// The places from d on hold 0, so that frames with the same numbers are equal.
 #[derive(Clone, Copy, Debug)]
 pub struct Frame {
     d: u8,
@@ -19,4 +20,5 @@ pub struct Frame {
     ghost long: { length sides ≡ 6 },
     ghost side_low: { (j : ℕ) → j < d → 1 ≤ getD sides j 0 },
     ghost side_high: { (j : ℕ) → j < d → getD sides j 0 ≤ 1000 },
+    ghost rest: { (j : ℕ) → d ≤ j → getD sides j 0 ≡ 0 },
 }

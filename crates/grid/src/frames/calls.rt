@@ -1,9 +1,11 @@
 // Making a frame and reading it.
 ghost use mathlib.Core.Bool.{true};
+ghost use mathlib.Core.List.{_++_};
 ghost use mathlib.Core.Path.{_≡_};
-ghost use lib.ListN.{length};
+ghost use Prim.Native.Nat.{_-_};
+ghost use lib.ListN.{length, replicate};
 ghost use Rattle.grid.specs.Below.{allBelow};
-ghost use Rattle.grid.specs.Frames.{frameAnswer, frameNumbers, isFrame, isSide, sideOk, sidesOf};
+ghost use Rattle.grid.specs.Frames.{fittedSides, frameAnswer, frameNumbers, isFrame, isSide, sideOk, sidesOf};
 ghost use Rattle.grid.specs.Refusals.{answered};
 use super::Frame;
 use crate::padding::padded;
@@ -32,6 +34,14 @@ impl Frame {
         self.k
     }
 
+    // This frame with the sides of another: those beyond d are dropped, and missing ones are 1.
+    pub fn with_sides_of(&self, other: &Frame) -> Frame
+        ensures { λ r. ⌜ frameNumbers r ≡ record { d = now (self .entry) .d; k = now (self .entry) .k; sides = fittedSides (now (self .entry) .d) (sidesOf (now (other .entry))) } ⌝ }
+    {
+        let sides = fitted(other);
+        kept(self.d, self.k, &sides[0..self.d as usize])
+    }
+
     // The d sides, axis by axis.
     pub fn sides(&self) -> &[u16]
         ensures { λ r. ⌜ now r ≡ sidesOf (now (self .entry)) ⌝ }
@@ -58,6 +68,13 @@ fn kept(d: u8, k: u8, sides: &[u16]) -> Frame
         k,
         sides: padded(sides, 0),
     }
+}
+
+// The sides of a frame, and 1 in the places past them.
+fn fitted(frame: &Frame) -> [u16; 6]
+    ensures { λ r. ⌜ r ≡ sidesOf (now (frame .entry)) ++ replicate (6 - length (sidesOf (now (frame .entry)))) 1 ⌝ }
+{
+    padded(frame.sides(), 1)
 }
 
 fn is_side(side: u16) -> bool

@@ -6,7 +6,7 @@ use Rattle.std.specs.declared.result.Result.{Result}
 use Rattle.std.specs.declared.result.Result.the-variants.{Ok, Err}
 use Rattle.grid.specs.Below.{allBelow, someBelow}
 use Rattle.cells.specs.Cells.{isCell}
-use Rattle.cells.specs.Sums.{sumBelow}
+use Rattle.grid.specs.Sums.{sumBelow}
 use Rattle.roadlist.proofs.level.open.Needs as need
 
 not-both : {X Y : Type 0} (e : Y) (x : X) → _≡_ {A = Result X Y} (Err e) (Ok x) → ⊥

@@ -3,6 +3,7 @@ use mathlib.Core.Path.{_≡_, ap, _∙_}
 use Prim.Native.Nat.{ℕ}
 use native.Mathlib.Omega.{arith}
 use lib.ListN.{length, getD, take}
+use Rattle.std.proofs.shelf.Lists.{getD-past}
 use Rattle.grid.proofs.Framed.{framed}
 use Rattle.grid.proofs.Padded.{length-padded, take-padded, getD-padded}
 use Rattle.grid.proofs.frames.calls.kept.Needs as need
@@ -27,7 +28,10 @@ ghost-result c =
               f .k-below,
               (
                 ap length e ∙ length-padded ss 0 (omega (arith, f .d-high, f .long)),
-                ((λ j h. rw (at j) (f .each j h .0)), ((λ j h. rw (at j) (f .each j h .1)), tt)),
+                (
+                  (λ j h. rw (at j) (f .each j h .0)),
+                  ((λ j h. rw (at j) (f .each j h .1)), ((λ j h. at j ∙ getD-past ss j 0 (omega (arith, f .long))), tt)),
+                ),
               ),
             ),
           ),

@@ -7,7 +7,7 @@ use native.Mathlib.Omega.{arith}
 use lib.IntN.{ℤ, pos, _+ℤ_}
 use Rattle.std.proofs.shelf.Signed.{ints}
 use Rattle.std.proofs.shelf.Tests.{cases-lt}
-use Rattle.cells.specs.Sums.{sumBelow}
+use Rattle.grid.specs.Sums.{sumBelow}
 
 pub sum-more : (f : ℕ → ℤ) (n : ℕ) → sumBelow f (n + 1) ≡ sumBelow f n +ℤ f n
 unfolding sumBelow
