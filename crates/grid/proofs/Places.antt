@@ -15,9 +15,12 @@ use Rattle.std.proofs.shelf.Lists.{drop-all, drop-more}
 use Rattle.std.proofs.shelf.Ways.{tells}
 use Rattle.grid.specs.Below.{allBelow}
 use Rattle.grid.specs.Boxes.{axisHas, inBox, onAxis, OnlyNumber, placeAnswer, placeNumber, vertexCount}
+use Rattle.grid.specs.Frames.{sidesOf}
 use Rattle.grid.specs.Vertices.{coordinatesOf}
+use Rattle.grid.specs.declared.frames.Frame.{Frame}
 use Rattle.grid.specs.declared.vertices.Vertex.{Vertex}
 use Rattle.grid.proofs.Below.{all-at}
+use Rattle.grid.proofs.Framed.{length-sides, side-most}
 use Rattle.grid.proofs.Vertexes.{same-vertex}
 
 -- what the test of the box says, both ways
@@ -113,3 +116,35 @@ bound-more s x p n xs sl pn =
 
 pub bound-most : (n m : ℕ) → n ≤ m → 1001 ^ n ≤ 1001 ^ m
 bound-most n m h = pow-le-pow-right (omega arith) h
+
+-- a frame's box has fewer than 2^60 vertices
+
+count-most : (sides : List ℕ) → ((j : ℕ) → j < length sides → getD sides j 0 ≤ 1000) → vertexCount sides ≤ 1001 ^ length sides
+count-most [] h = omega arith
+count-most (s ∷ ss) h =
+    let n : vertexCount ss ≤ 1001 ^ length ss = count-most ss (λ j g. h (suc j) (omega arith)) in
+    let low : s ≤ 1000 = h 0 (omega arith) in
+    let a : (s + 1) * vertexCount ss ≤ 1001 * vertexCount ss = mul-le-mul-right (vertexCount ss) (omega arith) in
+    rw (pow-succ' 1001 (length ss)) (omega arith)
+
+pub count-small : (f : Frame) → vertexCount (sidesOf f) < 2 ^ 60
+count-small f =
+    let long = length-sides f in
+    let high = f .«d_high» in
+    let most : vertexCount (sidesOf f) ≤ 1001 ^ length (sidesOf f) = count-most (sidesOf f) (λ j h. side-most f j (omega arith)) in
+    let six : 1001 ^ length (sidesOf f) ≤ 1001 ^ 6 = bound-most (length (sidesOf f)) 6 (omega arith) in
+    omega arith
+
+-- a vertex of a frame's box has up to six coordinates, each from 0 to 1,000
+
+on-longer-axis : (s t : ℕ) (x : ℤ) → s ≤ t → onAxis s x ≡ true → onAxis t x ≡ true
+on-longer-axis s t (pos n) h e = grind (arith, tells)
+on-longer-axis s t (negsuc n) h e = e
+
+pub box-short : (f : Frame) (v : List ℤ) → inBox (sidesOf f) v ≡ true → (length v ≤ 6) × ((j : ℕ) → j < length v → onAxis 1000 (getD v j (pos 0)) ≡ true)
+box-short f v h =
+    let b = in-box (sidesOf f) v h in
+    let long = length-sides f in
+    let axes = b .axes in
+    let high = f .«d_high» in
+    (omega arith, λ j g. on-longer-axis (getD (sidesOf f) j 0) 1000 (getD v j (pos 0)) (side-most f j (omega arith)) (b .each j (omega arith)))

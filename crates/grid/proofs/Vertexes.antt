@@ -11,8 +11,10 @@ use lib.ListN.{length, getD, take, drop}
 use Rattle.std.specs.Joined.{joined}
 use Rattle.std.specs.Written.{signed}
 use Rattle.std.proofs.shelf.Lists.{ext-getD, getD-take, length-take-le, take-rest}
+use Rattle.std.specs.declared.option.Option.the-variants.{Some}
 use Rattle.std.proofs.shelf.Tests.{cases-lt}
-use Rattle.grid.specs.Vertices.{afterSpace, coordinatesOf, spaced}
+use Rattle.std.proofs.shelf.Ways.{tells}
+use Rattle.grid.specs.Vertices.{afterSpace, coordinatesOf, spaced, vertexAnswer}
 use Rattle.grid.specs.declared.vertices.Vertex.{Vertex}
 
 abbrev Rest : ℕ → List ℤ → Type 0
@@ -57,3 +59,7 @@ same-vertex v w e = vertex-from v w axes (ext-getD (pos 0) (v .at) (w .at) (v .l
 pub spaced-parts : (xs : List ℤ) → 1 ≤ length xs → signed (getD xs 0 (pos 0)) ++ joined afterSpace (take (length xs - 1) (drop 1 xs)) ≡ spaced xs
 spaced-parts [] h = absurd (omega arith)
 spaced-parts (x ∷ xs) h = ap (λ ys. signed x ++ joined afterSpace ys) (take-rest (x ∷ xs) 1)
+
+-- 2 to 6 numbers are a vertex's coordinates
+pub vertex-taken : (xs : List ℤ) (d : ℕ) → length xs ≡ d → 2 ≤ d → d ≤ 6 → vertexAnswer xs ≡ Some xs
+vertex-taken xs d e h g = grind (arith, tells)

@@ -7,7 +7,7 @@ use lib.ListN.{getD}
 use mir.Syntax.{w32}
 use mir.Val.{SFits}
 use Rattle.std.proofs.shelf.Signed.{toZ-ofZ}
-use Rattle.grid.proofs.Filled.{filled-all, filled-more-i32, filled-none}
+use Rattle.grid.proofs.Filled.{filled-all, filled-more-signed, filled-none}
 use Rattle.cells.specs.World.{inWorld}
 use Rattle.cells.proofs.Ascending.{base-in-world}
 use Rattle.cells.proofs.Checked.{is-cell}
@@ -27,7 +27,7 @@ loop-j-again c =
     let r = c .args .cell .now .plain in
     let x = getD (r .base) (c .loop-j .j) (pos 0) in
     let fit : SFits w32 (getD (r .base) (c .loop-j .j) (pos 0)) = search needs in
-    filled-more-i32 (omega arith) (search needs) (c .lowered .ensures ∙ ap₂ (λ z b. z -ℤ pos (cond b 1 0)) (toZ-ofZ w32 x fit) (c .goes-down .ensures)) (c .loop-j .inv)
+    filled-more-signed w32 (omega arith) (search needs) (c .lowered .ensures ∙ ap₂ (λ z b. z -ℤ pos (cond b 1 0)) (toZ-ofZ w32 x fit) (c .goes-down .ensures)) (c .loop-j .inv)
 
 pub returns : need.returns
 returns c = filled-all (c .loop-j-test .left) (c .loop-j .inv)
