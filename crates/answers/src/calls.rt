@@ -1,4 +1,6 @@
 // The calls and the text of their answers.
+use crate::asks::ask_quadric;
+use crate::asks::ask_table;
 use crate::records::number_at;
 use crate::records::numbers;
 use crate::records::record_of;
@@ -13,17 +15,23 @@ use std::alloc::Global;
 pub fn answer(heap: Global, line: &str) -> Result<String, AllocError> {
     let numbers = numbers(heap, line)?;
     let word = line.split(' ').next().unwrap_or("");
-    if word == "frame" {
-        return frame(heap, numbers.as_slice());
+    match word {
+        "frame" => frame(heap, numbers.as_slice()),
+        "ask-table" => ask_table(heap, numbers.as_slice()),
+        "ask-quadric" => ask_quadric(heap, numbers.as_slice()),
+        _ => on_cell(heap, word, numbers.as_slice()),
     }
-    let Some(record) = record_of(numbers.as_slice()) else {
+}
+
+fn on_cell(heap: Global, word: &str, numbers: &[i64]) -> Result<String, AllocError> {
+    let Some(record) = record_of(numbers) else {
         return String::from_str(heap, "?");
     };
     let cell = match Cell::new(record) {
         Ok(cell) => cell,
         Err(refusal) => return refused(heap, refusal),
     };
-    let n = number_at(numbers.as_slice(), 15).unwrap_or(0);
+    let n = number_at(numbers, 15).unwrap_or(0);
     match word {
         "cell" => vertices(heap, &cell),
         "facet" => answered(heap, cell.facet(n)),

@@ -1,6 +1,8 @@
-// Answers calls on frames and cells, one a line, as standard input brings them. What it is run on, and what it must answer, came
-// from another implementation.
+// Answers calls on frames, cells and fields, one a line, as standard input brings them. What it is run on, and what it must answer,
+// came from another implementation.
+mod asks;
 mod calls;
+mod readers;
 mod records;
 
 use std::io;

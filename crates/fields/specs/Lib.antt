@@ -5,4 +5,5 @@ pub mod Tables
 pub mod Quadrics
 pub mod Levels
 pub mod Windows
+pub mod Alike
 pub mod Ranges

@@ -23,10 +23,10 @@ pub struct Level<F> {
     levels: [i16; 3],
 }
 
-impl<F> Level<F> {
+impl<F: Field> Level<F> {
     // Level r is subtracted from row r; those beyond the rows are not looked at.
     pub fn new(below: F, levels: [i16; 3]) -> Level<F>
-        ensures { λ r. ⌜ (r .below ≡ below) × (r .levels ≡ levels) ⌝ }
+        ensures { λ r. ⌜ levelMeaning (F·Field .meaning (r .below)) (r .levels) ≡ levelMeaning (F·Field .meaning below) levels ⌝ }
     {
         Level { below, levels }
     }

@@ -1,4 +1,5 @@
 // Fields: what a level is, and tables, quadrics and layers as fields.
+mod alike;
 mod asking;
 mod lent;
 mod levels;
@@ -7,6 +8,7 @@ mod tables;
 mod values;
 mod windows;
 
+pub use alike::alike_at;
 pub use asking::Field;
 pub use lent::LentField;
 pub use levels::Level;

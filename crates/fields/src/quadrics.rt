@@ -37,7 +37,7 @@ pub struct Quadric {
 impl Quadric {
     // Rows beyond k and coefficients beyond d are not looked at.
     pub fn new(frame: Frame, rows: [Row; 3]) -> Quadric
-        ensures { λ r. ⌜ (r .frame ≡ frame) × (r .rows ≡ rows) ⌝ }
+        ensures { λ r. ⌜ quadricMeaning (frameNumbers (r .frame)) (r .rows) ≡ quadricMeaning (frameNumbers frame) rows ⌝ }
     {
         Quadric { frame, rows }
     }

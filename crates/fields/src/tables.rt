@@ -25,7 +25,7 @@ pub struct Table<'a> {
 impl<'a> Table<'a> {
     // The samples of vertex number m are the k numbers from position k * m on; there may be any number of them.
     pub fn new(frame: Frame, samples: &'a [i16]) -> Table<'a>
-        ensures { λ r. ⌜ (r .frame ≡ frame) × (now (r .samples) ≡ now (samples .entry)) ⌝ }
+        ensures { λ r. ⌜ tableMeaning (frameNumbers (r .frame)) (now (r .samples)) ≡ tableMeaning (frameNumbers frame) (now (samples .entry)) ⌝ }
     {
         Table { frame, samples }
     }

@@ -27,10 +27,10 @@ pub struct Window<F> {
     corner: [u16; 6],
 }
 
-impl<F> Window<F> {
+impl<F: Field> Window<F> {
     // The sides are those of `own`, whose rows are not looked at; corner numbers beyond the axes are not either.
     pub fn new(below: F, own: Frame, corner: [u16; 6]) -> Window<F>
-        ensures { λ r. ⌜ (r .below ≡ below) × (r .own ≡ own) × (r .corner ≡ corner) ⌝ }
+        ensures { λ r. ⌜ windowMeaning (F·Field .meaning (r .below)) (sidesOf (r .own)) (r .corner) ≡ windowMeaning (F·Field .meaning below) (sidesOf own) corner ⌝ }
     {
         Window { below, own, corner }
     }
