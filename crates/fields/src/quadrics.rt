@@ -2,7 +2,7 @@
 ghost use mathlib.Core.Bool.{true};
 ghost use mathlib.Core.Path.{_≡_};
 ghost use Prim.Native.Nat.{ℕ, _<_, _≤_, _^_};
-ghost use lib.IntN.{natAbs, pos};
+ghost use lib.IntN.{natAbs, pos, _*ℤ_};
 ghost use lib.ListN.{getD, length, take};
 ghost use Rattle.std.specs.Options.{mapped};
 ghost use Rattle.grid.specs.Boxes.{inBox, onAxis};
@@ -109,6 +109,13 @@ fn axis_part(a: i16, b: i16, x: i32) -> i64
     ensures is { λ r. ⌜ r ≡ axisPart a b x ⌝ }
     ensures small { λ r. ⌜ natAbs r ≤ 2 ^ 35 ⌝ }
 {
+    a as i64 * x as i64 + b as i64 * square(x)
+}
+
+fn square(x: i32) -> i64
+    requires { ⌜ onAxis 1000 x ≡ true ⌝ }
+    ensures { λ r. ⌜ r ≡ x *ℤ x ⌝ }
+{
     let x = x as i64;
-    a as i64 * x + b as i64 * (x * x)
+    x * x
 }

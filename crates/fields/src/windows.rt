@@ -76,7 +76,7 @@ fn plus_corner(at: &[i32], corner: &[u16; 6]) -> [i32; 6]
 {
     let mut sums = [0; 6];
     for j in 0..at.len() {
-        sums[j] = plus(at[j], corner[j]);
+        sums[j] = plus(at[j], corner_at(corner, j));
     }
     sums
 }
@@ -87,4 +87,11 @@ fn plus(x: i32, c: u16) -> i32
     ensures { λ r. ⌜ r ≡ x +ℤ pos c ⌝ }
 {
     x + i32::from(c)
+}
+
+fn corner_at(corner: &[u16; 6], axis: usize) -> u16
+    requires { ⌜ axis < 6 ⌝ }
+    ensures { λ r. ⌜ r ≡ getD (now (corner .entry)) axis 0 ⌝ }
+{
+    corner[axis]
 }

@@ -1,4 +1,4 @@
-use mathlib.Core.Path.{refl, ap, _∙_}
+use mathlib.Core.Path.{refl, ap₂, _∙_}
 use native.Mathlib.Omega.{arith}
 use borrow.Author.Needs.{needs}
 use lib.IntN.{pos, _+ℤ_}
@@ -20,7 +20,7 @@ pub loop-j-again : need.loop-j-again
 loop-j-again c =
     let j = c .loop-j .j in
     let x = toZ-ofZ w32 (getD (c .args .at .now) j (pos 0)) (search needs) in
-    filled-more-signed w32 (omega (arith, c .pre .0)) (search needs) (c .plus .ensures ∙ ap (λ z. z +ℤ pos (getD (c .args .corner .now) j 0)) x) (c .loop-j .inv)
+    filled-more-signed w32 (omega (arith, c .pre .0)) (search needs) (c .plus .ensures ∙ ap₂ (λ z n. z +ℤ pos n) x (c .corner-at .ensures)) (c .loop-j .inv)
 
 pub returns : need.returns
 returns c = filled-front (length (c .args .at .now)) (c .pre .0) (c .loop-j-test .left) (c .loop-j .inv)
