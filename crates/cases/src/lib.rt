@@ -1,4 +1,6 @@
 // Worked cases of the layers, run as tests. They stand apart, so that a layer is proved without them.
+#![tactic(auto)]
+
 #[cfg(test)]
 mod alike;
 #[cfg(test)]

@@ -1,4 +1,6 @@
 // Cells of the Freudenthal-Kuhn triangulation: a base vertex and an ordered partition of the axes' numbers.
+#![tactic(auto)]
+
 mod cells;
 mod checks;
 mod records;

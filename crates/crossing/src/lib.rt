@@ -1,4 +1,6 @@
 // Crossing: which cells the road passes through, told by the weights of the values at their vertices.
+#![tactic(auto)]
+
 mod boxes;
 mod classes;
 mod deciding;

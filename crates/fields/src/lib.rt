@@ -1,4 +1,6 @@
 // Fields: what a level is, and tables, quadrics and layers as fields.
+#![tactic(auto)]
+
 mod alike;
 mod asking;
 mod lent;

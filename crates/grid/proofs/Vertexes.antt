@@ -1,5 +1,9 @@
 -- A vertex is its coordinates: equal coordinates make equal vertices, since the unused places hold 0.
-use Rattle.std.proofs.Common.{◌≡◌, ℕ, ◌-◌, ◌<◌, ◌≤◌, List, [], ◌∷◌, ◌++◌, length, get_or, take, drop, ℤ, pos, Some, sym, ap, ◌∙◌, subst, inl, inr, arith}
+use Rattle.std.proofs.Common.{◌≡◌, ℕ, ◌-◌, ◌<◌, ◌≤◌, List, [], ◌∷◌, ◌++◌, length, get_or, take, drop, ℤ, pos, Some, sym, ap, ◌∙◌, subst, inl, inr, arith, eqb, refl, Decides}
+use Rattle.std.specs.Ordering.{int_eq}
+use Rattle.std.specs.Cmp.Lexicographic.{pointwise}
+use Rattle.std.proofs.lemmas.Slice.Eq.{slice_eq-Decides}
+use Rattle.std.proofs.lemmas.Bool.{and_from, and_parts}
 use native.Mathlib.Bridge.{le_prop}
 use native.Mathlib.Nat.{ℕ_set}
 use lib.IntN.{ℤ_set}
@@ -7,8 +11,8 @@ use Rattle.std.specs.List.{flat_map}
 use Rattle.std.specs.Fmt.{signed_decimal}
 use Rattle.std.proofs.lemmas.List.{ext_get_or, get_or-take, length-take-le, take_rest}
 use Rattle.std.proofs.lemmas.Bool.{cases_lt}
-use Rattle.std.proofs.lemmas.Bool.Decides.{nat_tests}
-use Rattle.grid.specs.Vertices.{after_space, coordinates_of, spaced, vertex_answer}
+use Rattle.std.proofs.lemmas.Bool.Decides.{nat_tests, Decides-eqb, Decides-int_eq}
+use Rattle.grid.specs.Vertices.{after_space, coordinates_of, spaced, vertex_answer, vertex_eq}
 use Rattle.grid.specs.declared.vertices.Vertex.{Vertex}
 
 abbrev Rest : ℕ → List ℤ → Type 0
@@ -57,3 +61,12 @@ spaced_parts (x ∷ xs) h = ap (λ ys. signed_decimal x ++ flat_map after_space 
 -- 2 to 6 numbers are a vertex's coordinates
 pub vertex_taken : (xs : List ℤ) (d : ℕ) → length xs ≡ d → 2 ≤ d → d ≤ 6 → vertex_answer xs ≡ Some xs
 vertex_taken xs d e h g = grind (arith, nat_tests)
+
+-- the test for equality says yes exactly for equal vertices
+pub vertex_eq_exact : (v w : Vertex) → Decides (vertex_eq v w) (v ≡ w)
+vertex_eq_exact v w =
+    let axes : Decides (eqb v.d w.d) (v.d ≡ w.d) = Decides-eqb v.d w.d in
+    let places : Decides (pointwise int_eq v.at w.at) (v.at ≡ w.at) = slice_eq-Decides Decides-int_eq v.at w.at (pointwise int_eq v.at w.at) refl in (
+      λ h. let both = and_parts (eqb v.d w.d) (pointwise int_eq v.at w.at) h in vertex_from v w (axes.0 both.0) (places.0 both.1),
+      λ e. and_from (eqb v.d w.d) (pointwise int_eq v.at w.at) (axes.1 (ap (λ (x : Vertex). x.d) e)) (places.1 (ap (λ (x : Vertex). x.at) e)),
+    )

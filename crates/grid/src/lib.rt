@@ -1,4 +1,6 @@
 // The grid that every layer stands on: vertices, frames and their boxes, and the refusals and faults that calls answer with.
+#![tactic(auto)]
+
 mod faults;
 mod frames;
 mod padding;

@@ -1,5 +1,7 @@
 // Prints the level that it holds: d and k, the seed cell, each vertex of the seed with its place in the box and its values, and
 // the seed's cofacets.
+#![tactic(auto)]
+
 mod level;
 mod lines;
 

@@ -1,4 +1,6 @@
 // Traces the road of the level that it holds: plants the seed, steps to the end, seals, and prints what is listed.
+#![tactic(auto)]
+
 mod level;
 mod lines;
 

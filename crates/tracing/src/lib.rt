@@ -1,4 +1,6 @@
 // Tracing: from one crossed cell, all cells of its road.
+#![tactic(auto)]
+
 mod lists;
 mod sameness;
 mod traces;

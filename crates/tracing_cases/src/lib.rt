@@ -1,4 +1,6 @@
 // Worked cases of tracing, run as tests. They stand apart, so that the layer is proved without them.
+#![tactic(auto)]
+
 #[cfg(test)]
 mod lists;
 #[cfg(test)]

@@ -1,4 +1,6 @@
 // The law over any walk along touching cells: what is listed at the end is the road of the seed.
+#![tactic(auto)]
+
 ghost use Rattle.walk.specs.Law.{WalkLaw};
 
 // Over any cells where touching goes both ways and each crossed cell has a pair: a walk lists only cells on the road of its seed,

@@ -1,10 +1,9 @@
 // Making a vertex, reading it and comparing two.
 ghost use Rattle.std.specs.Prelude.{◌≡◌, ◌≤◌, length, Decides};
 ghost use Rattle.std.specs.Option.{option_map};
-ghost use Rattle.grid.specs.Vertices.{coordinates_of, vertex_answer};
-ghost use Rattle.std.specs.Cmp.Rules.{comparing};
-ghost use Rattle.std.proofs.Common.{rules, arith};
-ghost use Rattle.std.specs.Cmp as Keys;
+ghost use Rattle.std.specs.Cmp.{and_per, int_eq_equiv, nat_eq_equiv, on_per, partial_equiv_from_equiv};
+ghost use Rattle.std.specs.Cmp.Lexicographic.{lists_per};
+ghost use Rattle.grid.specs.Vertices.{coordinates_of, vertex_answer, vertex_eq};
 
 use super::Vertex;
 use crate::padding::padded;
@@ -35,11 +34,14 @@ impl Vertex {
 }
 
 impl PartialEq for Vertex {
-    ghost equals = { λ x y r. Decides r (x ≡ y) };
+    ghost eq = { vertex_eq };
 
-    ghost laws = { Keys.partial_equiv_from_equiv (first_of (Prim.search (comparing, rules), Prim.grind (arith, Self.row.coded.inj))) };
+    ghost laws = { and_per (on_per (λ v. v.d) (partial_equiv_from_equiv nat_eq_equiv)) (on_per (λ v. v.at) (lists_per (partial_equiv_from_equiv int_eq_equiv))) };
 
-    fn eq(&self, other: &Vertex) -> bool {
+    fn eq(&self, other: &Vertex) -> bool
+        ensures tells { result ≡ vertex_eq self.now other.now }
+        ensures exact { Decides result (self.now ≡ other.now) }
+    {
         are_same(self, other)
     }
 }

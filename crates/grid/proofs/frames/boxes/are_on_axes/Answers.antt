@@ -8,5 +8,5 @@ loop-j-init c = all_none _
 pub loop-j-preserved : goal.loop-j-preserved
 loop-j-preserved c = search (rules, all_more)
 
-pub returns-then-not-is-on-axis : goal.returns-then-not-is-on-axis
-returns-then-not-is-on-axis c = sym (all_false _ _ c.loop-j.j (omega arith) (grind arith))
+pub returns-then-not-is_on_axis : goal.returns-then-not-is_on_axis
+returns-then-not-is_on_axis c = sym (all_false _ _ c.loop-j.j (omega arith) (grind arith))

@@ -6,8 +6,8 @@ use Rattle.grid.proofs.Framed.{length-sides, side_most}
 use Rattle.grid.proofs.Places.{in_box_lem, only_number, place_below}
 use Rattle.grid.proofs.frames.boxes.place_of.Goals as goal
 
-pub place-number-requires : goal.place-number-requires
-place-number-requires c =
+pub place_number-requires : goal.place_number-requires
+place_number-requires c =
     let f = c.args.frame.now in
     let e = c.sides.ensures in
     let l = length-sides f in
@@ -21,7 +21,7 @@ pub returns : goal.returns
 returns c =
     let ss = sides_of c.args.frame.now in
     let v = c.args.vertex.now in
-    let place : c.place-number.result ≡ place_number ss (coordinates_of v) = c.place-number.ensures ∙ ap₂ place_number c.sides.ensures c.coordinates.ensures in
+    let place : c.place_number.result ≡ place_number ss (coordinates_of v) = c.place_number.ensures ∙ ap₂ place_number c.sides.ensures c.coordinates.ensures in
     record {
       place = place;
       below = subst (λ n. n < vertex_count ss) (sym place) (place_below ss (coordinates_of v) (in_box_lem ss (coordinates_of v) c.requires));

@@ -8,5 +8,5 @@ loop-side-init c = all_none _
 pub loop-side-preserved : goal.loop-side-preserved
 loop-side-preserved c = search (rules, all_more)
 
-pub returns-then-not-is-side : goal.returns-then-not-is-side
-returns-then-not-is-side c = sym (all_false _ _ c.loop-side.side-index (omega arith) (grind arith))
+pub returns-then-not-is_side : goal.returns-then-not-is_side
+returns-then-not-is_side c = sym (all_false _ _ c.loop-side.side-index (omega arith) (grind arith))

@@ -7,33 +7,23 @@ use Rattle.grid.proofs.frames.calls.kept.Goals as goal
 pub padded-requires : goal.padded-requires
 padded-requires c = let f = framed c.args.d c.args.k c.args.sides.now c.requires in omega (arith, f.d_high, f.long)
 
-pub invariant-of-result : goal.invariant-of-result
-invariant-of-result c =
+pub invariant_of-result : goal.invariant_of-result
+invariant_of-result c =
     let ss = c.args.sides.now in
     let e = c.padded.ensures in
     let f = framed c.args.d c.args.k c.args.sides.now c.requires in
-    let at : (j : ℕ) → get_or c.padded.result j 0 ≡ get_or ss j 0 = λ j. ap (λ ys. get_or ys j 0) e ∙ get_or-padded ss 0 j in (
-      f.d_low,
-      (
-        f.d_high,
-        (
-          f.k_low,
-          (
-            f.k_high,
-            (
-              f.k_below,
-              (
-                ap length e ∙ length-padded ss 0 (omega (arith, f.d_high, f.long)),
-                (
-                  (λ j h. rw (at j) (f.each j h).0),
-                  ((λ j h. rw (at j) (f.each j h).1), ((λ j h. at j ∙ get_or_past ss j 0 (omega (arith, f.long))), tt)),
-                ),
-              ),
-            ),
-          ),
-        ),
-      ),
-    )
+    let at : (j : ℕ) → get_or c.padded.result j 0 ≡ get_or ss j 0 = λ j. ap (λ ys. get_or ys j 0) e ∙ get_or-padded ss 0 j in
+    record {
+      d_low = f.d_low;
+      d_high = f.d_high;
+      k_low = f.k_low;
+      k_high = f.k_high;
+      k_below = f.k_below;
+      long = ap length e ∙ length-padded ss 0 (omega (arith, f.d_high, f.long));
+      side_low = λ j h. rw (at j) (f.each j h).0;
+      side_high = λ j h. rw (at j) (f.each j h).1;
+      rest = λ j h. at j ∙ get_or_past ss j 0 (omega (arith, f.long));
+    }
 
 pub returns : goal.returns
 returns c =

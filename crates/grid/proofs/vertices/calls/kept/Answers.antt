@@ -3,19 +3,16 @@ use Rattle.std.proofs.lemmas.List.{get_or_past}
 use Rattle.grid.proofs.Padded.{length-padded, take-padded, get_or-padded}
 use Rattle.grid.proofs.vertices.calls.kept.Goals as goal
 
-pub invariant-of-result : goal.invariant-of-result
-invariant-of-result c =
+pub invariant_of-result : goal.invariant_of-result
+invariant_of-result c =
     let xs = c.args.numbers.now in
-    let e = c.padded.ensures in (
-      omega arith,
-      (
-        omega arith,
-        (
-          ap length e ∙ length-padded xs (pos 0) (omega arith),
-          ((λ j h. ap (λ ys. get_or ys j (pos 0)) e ∙ get_or-padded xs (pos 0) j ∙ get_or_past xs j (pos 0) h), tt),
-        ),
-      ),
-    )
+    let e = c.padded.ensures in
+    record {
+      d_low = omega arith;
+      d_high = omega arith;
+      long = ap length e ∙ length-padded xs (pos 0) (omega arith);
+      rest = λ j h. ap (λ ys. get_or ys j (pos 0)) e ∙ get_or-padded xs (pos 0) j ∙ get_or_past xs j (pos 0) h;
+    }
 
 pub returns : goal.returns
 returns c =
