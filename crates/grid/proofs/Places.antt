@@ -1,6 +1,6 @@
 -- The vertices of a box and their numbers: along each axis, a number is a digit below side + 1 and the number along the axes
 -- after it, so equal numbers have equal digits.
-use Rattle.std.proofs.Common.{◌≡◌, ℕ, suc, ◌+◌, ◌-◌, ◌*◌, ◌/◌, ◌%◌, ◌^◌, ◌<◌, ◌≤◌, Bool, true, false, cond, List, [], ◌∷◌, length, get_or, drop, ℤ, pos, negsuc, nat_abs, Some, None, sym, refl, ap, ◌∙◌, ap₂, mul-le-mul_right, mul_comm, add_comm, add-one, arith}
+use Rattle.std.proofs.Common.{◌≡◌, ℕ, suc, ◌+◌, ◌*◌, ◌/◌, ◌%◌, ◌^◌, ◌<◌, ◌≤◌, Bool, true, false, cond, List, [], ◌∷◌, length, get_or, drop, ℤ, pos, negsuc, nat_abs, Some, None, sym, refl, ap, ◌∙◌, ap₂, mul-le-mul_right, mul_comm, add_comm, add-one, arith}
 use native.Mathlib.Nat.{pow-le-pow_right, pow-succ'}
 use lib.Arith.{digits_div, digits_lt, digits_mod}
 use Rattle.std.proofs.lemmas.List.{drop_all, drop_more}
