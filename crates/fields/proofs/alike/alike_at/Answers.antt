@@ -5,6 +5,6 @@ use Rattle.fields.proofs.alike.alike_at.Goals as goal
 
 pub returns : goal.returns
 returns g c = record {
-  answer = subst (Decides c.are-alike.result) (ap₂ AlikeOutcomes c.at.ensures c.at-2.ensures) c.are-alike.ensures;
+  answer = subst (Decides c.are_alike.result) (ap₂ AlikeOutcomes c.at.ensures c.at-2.ensures) c.are_alike.ensures;
   laws = alike_laws;
 }

@@ -2,13 +2,13 @@ use Rattle.std.proofs.lemmas.Int.{to_z-of_z}
 use Rattle.fields.proofs.Bounded.{Bounded, bounded}
 use Rattle.fields.proofs.quadrics.axis_part.Goals as goal
 
-pub overflow-mul-result-2 : goal.overflow-mul-result-2
-overflow-mul-result-2 c =
+pub overflow_mul-result-2 : goal.overflow_mul-result-2
+overflow_mul-result-2 c =
     let p : Bounded c.args.a c.args.b c.args.x = bounded _ _ _ c.ranges.a c.ranges.b c.requires in
     simp (to_z-of_z, c.square.ensures, c.ranges.b, c.ranges.x, p.second, p.twice) p.square
 
-pub overflow-add-result : goal.overflow-add-result
-overflow-add-result c =
+pub overflow_add-result : goal.overflow_add-result
+overflow_add-result c =
     let p : Bounded c.args.a c.args.b c.args.x = bounded _ _ _ c.ranges.a c.ranges.b c.requires in
     simp (to_z-of_z, c.square.ensures, c.ranges.a, c.ranges.b, c.ranges.x, p.first, p.second, p.coordinate, p.linear, p.twice, p.square) p.whole
 

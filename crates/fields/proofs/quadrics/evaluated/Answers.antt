@@ -3,8 +3,8 @@ use Rattle.grid.specs.Vertices.{coordinates_of}
 use Rattle.grid.proofs.Places.{box_short}
 use Rattle.fields.proofs.quadrics.evaluated.Goals as goal
 
-pub rows-at-sums-requires : goal.rows-at-sums-requires
-rows-at-sums-requires c =
+pub rows_at-sums-requires : goal.rows_at-sums-requires
+rows_at-sums-requires c =
     let f = c.args.frame.now in
     let k = c.k-k.ensures in
     let high = f.k_high in

@@ -18,15 +18,15 @@ sum_taken f v cs h =
     vertex_taken (plus_corner v cs) f.d long f.d_low f.d_high
     ∙ sym (cond-true (in_box (sides_of f) v) (Some (plus_corner v cs)) None h)
 
-pub plus-corner-sums-requires : goal.plus-corner-sums-requires
-plus-corner-sums-requires c = rw c.coordinates-at.ensures (box_short c.args.frame.now (coordinates_of c.args.vertex.now) (sym c.if-not-contains.ensures))
+pub plus_corner-sums-requires : goal.plus_corner-sums-requires
+plus_corner-sums-requires c = rw c.coordinates-at.ensures (box_short c.args.frame.now (coordinates_of c.args.vertex.now) (sym c.if-not-contains.ensures))
 
 pub returns : goal.returns
 returns c =
     let at = c.coordinates-at.result.now in
     let cs = c.args.corner.now in
     c.new.ensures
-    ∙ ap (λ n. vertex_answer (take n c.plus-corner-sums.result)) (sub-zero (length at))
-    ∙ ap vertex_answer c.plus-corner-sums.ensures
+    ∙ ap (λ n. vertex_answer (take n c.plus_corner-sums.result)) (sub-zero (length at))
+    ∙ ap vertex_answer c.plus_corner-sums.ensures
     ∙ ap (λ v. vertex_answer (plus_corner v cs)) c.coordinates-at.ensures
     ∙ sum_taken c.args.frame.now (coordinates_of c.args.vertex.now) cs (sym c.if-not-contains.ensures)

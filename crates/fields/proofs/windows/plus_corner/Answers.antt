@@ -15,7 +15,7 @@ pub loop-j-preserved : goal.loop-j-preserved
 loop-j-preserved c =
     let j = c.loop-j.j in
     let x = to_z-of_z w32 (get_or c.args.at.now j (pos 0)) (search rules) in
-    filled_more_signed w32 (omega (arith, c.requires.0)) (search rules) (c.plus.ensures ∙ ap₂ (λ z n. z +ℤ pos n) x c.corner-at.ensures) c.loop-j.invariant
+    filled_more_signed w32 (omega (arith, c.requires.0)) (search rules) (c.plus.ensures ∙ ap₂ (λ z n. z +ℤ pos n) x c.corner_at.ensures) c.loop-j.invariant
 
 pub returns : goal.returns
 returns c = filled_front (length c.args.at.now) c.requires.0 c.loop-j-test.false c.loop-j.invariant

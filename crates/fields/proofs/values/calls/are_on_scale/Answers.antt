@@ -8,5 +8,5 @@ loop-row-init c = all_none _
 pub loop-row-preserved : goal.loop-row-preserved
 loop-row-preserved c = search (rules, all_more)
 
-pub returns-then-not-is-on-scale : goal.returns-then-not-is-on-scale
-returns-then-not-is-on-scale c = sym (all_false _ _ c.loop-row.row-index (omega arith) (grind arith))
+pub returns-then-not-is_on_scale : goal.returns-then-not-is_on_scale
+returns-then-not-is_on_scale c = sym (all_false _ _ c.loop-row.row-index (omega arith) (grind arith))

@@ -10,8 +10,8 @@ use Rattle.fields.proofs.values.calls.kept.Goals as goal
 copied : (xs narrow : List ℤ) (r : ℕ) → length xs ≤ 3 → length xs ≤ r → Filled (pos 0) (λ j. get_or xs j (pos 0)) 3 narrow r → take (length xs) narrow ≡ xs
 copied xs narrow r h g f = filled_front (length xs) h g f ∙ sym (table_from (length xs) (λ j. get_or xs j (pos 0)) xs (pos 0) refl (λ _ _. refl))
 
-pub overflow-cast-narrow : goal.overflow-cast-narrow
-overflow-cast-narrow c =
+pub overflow_cast-narrow : goal.overflow_cast-narrow
+overflow_cast-narrow c =
     let xs = c.args.rows.now in
     let r = c.loop-r.r in
     let wide : SFits w64 (get_or xs r (pos 0)) = search rules in
@@ -25,21 +25,12 @@ loop-r-preserved c =
     let xs = c.args.rows.now in
     let r = c.loop-r.r in
     let wide : SFits w64 (get_or xs r (pos 0)) = search rules in
-    filled_more_signed w16 (omega (arith, c.requires.1.0)) (overflow-cast-narrow c) (to_z-of_z w64 (get_or xs r (pos 0)) wide) c.loop-r.invariant
+    filled_more_signed w16 (omega (arith, c.requires.1.0)) (overflow_cast-narrow c) (to_z-of_z w64 (get_or xs r (pos 0)) wide) c.loop-r.invariant
 
-pub invariant-of-result : goal.invariant-of-result
-invariant-of-result c =
+pub invariant_of-result : goal.invariant_of-result
+invariant_of-result c =
     let xs = c.args.rows.now in
-    let e = copied xs c.loop-r.narrow c.loop-r.r c.requires.1.0 c.loop-r-test.false c.loop-r.invariant in (
-      c.requires.0,
-      (
-        c.requires.1.0,
-        (
-          c.loop-r.invariant.long,
-          (ap all_on_scale e ∙ c.requires.1.1, tt),
-        ),
-      ),
-    )
+    let e = copied xs c.loop-r.narrow c.loop-r.r c.requires.1.0 c.loop-r-test.false c.loop-r.invariant in record { k_low = c.requires.0; k_high = c.requires.1.0; long = c.loop-r.invariant.long; on_scale = ap all_on_scale e ∙ c.requires.1.1 }
 
 pub returns : goal.returns
 returns c = copied c.args.rows.now c.loop-r.narrow c.loop-r.r c.requires.1.0 c.loop-r-test.false c.loop-r.invariant
