@@ -1,6 +1,28 @@
 -- A record is its four parts.
-use Rattle.std.proofs.Common.{◌≡◌}
+use Rattle.std.proofs.Common.{◌≡◌, ◌&&◌, Decides, eqb, ap, refl}
+use Rattle.std.specs.Ordering.{int_eq}
+use Rattle.std.specs.Prelude.{nat_eq}
+use Rattle.std.specs.Cmp.Lexicographic.{pointwise}
+use Rattle.std.proofs.lemmas.Slice.Eq.{slice_eq-Decides}
+use Rattle.std.proofs.lemmas.Bool.{and_from, and_parts}
+use Rattle.std.proofs.lemmas.Bool.Decides.{Decides-eqb, Decides-int_eq}
+use Rattle.cells.specs.Records.{record_eq}
 use Rattle.cells.specs.declared.records.CellRecord.{CellRecord}
 
 pub same_record_lem : (r s : CellRecord) → r.d ≡ s.d → r.l ≡ s.l → r.base ≡ s.base → r.labels ≡ s.labels → r ≡ s
 same_record_lem r s d l b x = λ i. record { d = d i; l = l i; base = b i; labels = x i }
+
+-- the test for equality says yes exactly for equal records
+pub record_eq_exact : (r s : CellRecord) → Decides (record_eq r s) (r ≡ s)
+record_eq_exact r s =
+    let d : Decides (eqb r.d s.d) (r.d ≡ s.d) = Decides-eqb r.d s.d in
+    let l : Decides (eqb r.l s.l) (r.l ≡ s.l) = Decides-eqb r.l s.l in
+    let base : Decides (pointwise int_eq r.base s.base) (r.base ≡ s.base) = slice_eq-Decides Decides-int_eq r.base s.base (pointwise int_eq r.base s.base) refl in
+    let labels : Decides (pointwise nat_eq r.labels s.labels) (r.labels ≡ s.labels) = slice_eq-Decides Decides-eqb r.labels s.labels (pointwise nat_eq r.labels s.labels) refl in (
+      λ h.
+          let one = and_parts (eqb r.d s.d) (eqb r.l s.l && (pointwise int_eq r.base s.base && pointwise nat_eq r.labels s.labels)) h in
+          let two = and_parts (eqb r.l s.l) (pointwise int_eq r.base s.base && pointwise nat_eq r.labels s.labels) one.1 in
+          let three = and_parts (pointwise int_eq r.base s.base) (pointwise nat_eq r.labels s.labels) two.1 in
+          same_record_lem r s (d.0 one.0) (l.0 two.0) (base.0 three.0) (labels.0 three.1),
+      λ e. and_from (eqb r.d s.d) (eqb r.l s.l && (pointwise int_eq r.base s.base && pointwise nat_eq r.labels s.labels)) (d.1 (ap (λ (r : CellRecord). r.d) e)) (and_from (eqb r.l s.l) (pointwise int_eq r.base s.base && pointwise nat_eq r.labels s.labels) (l.1 (ap (λ (r : CellRecord). r.l) e)) (and_from (pointwise int_eq r.base s.base) (pointwise nat_eq r.labels s.labels) (base.1 (ap (λ (r : CellRecord). r.base) e)) (labels.1 (ap (λ (r : CellRecord). r.labels) e)))),
+    )

@@ -1,5 +1,5 @@
 -- A loop that spreads a number over the places that pass, bit by bit, and one that counts their sets by doubling.
-use Rattle.std.proofs.Common.{◌≡◌, ℕ, suc, ◌+◌, ◌-◌, ◌*◌, ◌/◌, ◌%◌, ◌^◌, ◌<◌, ◌≤◌, Bool, true, false, cond, length, sym, refl, ap, ◌∙◌, subst, ap₂, add_zero, mul_assoc, mul-add, add-one, arith, pow_mono}
+use Rattle.std.proofs.Common.{◌≡◌, ℕ, suc, ◌+◌, ◌-◌, ◌*◌, ◌/◌, ◌%◌, ◌^◌, ◌<◌, ◌≤◌, Bool, true, false, cond, length, sym, refl, ap, ◌∙◌, subst, ap₂, add-zero, mul_assoc, mul-add, add-one, arith, pow_mono}
 use native.Mathlib.Nat.{pow-succ'}
 use Rattle.cells.specs.Chosen.{chosen}
 use Rattle.cells.specs.Spread.{spread}
@@ -10,7 +10,7 @@ power_more q n = ap (λ k. 2 ^ k) (length-chosen_more q n) ∙ go (q n) (length 
   where
     go : (b : Bool) (k : ℕ) → 2 ^ (k + cond b 1 0) ≡ cond b (2 * 2 ^ k) (2 ^ k)
     go true k = ap (λ m. 2 ^ m) (add-one k) ∙ pow-succ' 2 k
-    go false k = ap (λ m. 2 ^ m) (add_zero k)
+    go false k = ap (λ m. 2 ^ m) (add-zero k)
 
 -- a loop that spreads bit by bit: what is done, and what is left at place j of 7
 pub record Spreads (q : ℕ → Bool) (n j rest bit code : ℕ) : Type 0 where

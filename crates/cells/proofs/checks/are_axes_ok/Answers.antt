@@ -8,5 +8,5 @@ loop-a-init c = all_none _
 pub loop-a-preserved : goal.loop-a-preserved
 loop-a-preserved c = search (rules, all_more)
 
-pub returns-then-not-is-axis-ok : goal.returns-then-not-is-axis-ok
-returns-then-not-is-axis-ok c = sym (all_false _ _ c.loop-a.a (omega arith) (grind arith))
+pub returns-then-not-is_axis_ok : goal.returns-then-not-is_axis_ok
+returns-then-not-is_axis_ok c = sym (all_false _ _ c.loop-a.a (omega arith) (grind arith))

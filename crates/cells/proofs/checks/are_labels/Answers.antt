@@ -8,5 +8,5 @@ loop-j-init c = all_none _
 pub loop-j-preserved : goal.loop-j-preserved
 loop-j-preserved c = search (rules, all_more)
 
-pub returns-then-not-is-label : goal.returns-then-not-is-label
-returns-then-not-is-label c = sym (all_false _ _ c.loop-j.j (omega arith) (grind arith))
+pub returns-then-not-is_label : goal.returns-then-not-is_label
+returns-then-not-is_label c = sym (all_false _ _ c.loop-j.j (omega arith) (grind arith))

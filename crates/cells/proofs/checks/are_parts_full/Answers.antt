@@ -8,5 +8,5 @@ loop-p-init c = all_none _
 pub loop-p-preserved : goal.loop-p-preserved
 loop-p-preserved c = search (rules, all_more)
 
-pub returns-then-not-is-part-full : goal.returns-then-not-is-part-full
-returns-then-not-is-part-full c = sym (all_false _ _ c.loop-p.p (omega arith) (grind arith))
+pub returns-then-not-is_part_full : goal.returns-then-not-is_part_full
+returns-then-not-is_part_full c = sym (all_false _ _ c.loop-p.p (omega arith) (grind arith))

@@ -8,5 +8,5 @@ pub returns : goal.returns
 returns c =
     let r = c.args.self.now.plain in
     let i = is_cell_lem r c.args.self.now.ok in
-    let e = c.count-splits.ensures in
+    let e = c.count_splits.ensures in
     record { count = e; all = all_cofacets r i; small = omega (arith, splits_le r i) }

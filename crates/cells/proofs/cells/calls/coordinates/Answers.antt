@@ -6,7 +6,7 @@ pub loop-a-init : goal.loop-a-init
 loop-a-init c = filled_none refl
 
 pub loop-a-preserved : goal.loop-a-preserved
-loop-a-preserved c = filled_more_signed w32 (omega arith) (search rules) c.coordinate-or-0.ensures c.loop-a.invariant
+loop-a-preserved c = filled_more_signed w32 (omega arith) (search rules) c.coordinate_or_0.ensures c.loop-a.invariant
 
 pub returns : goal.returns
 returns c = filled_all c.loop-a-test.false c.loop-a.invariant

@@ -6,10 +6,10 @@ use Rattle.cells.proofs.Telling.{same_cell}
 use Rattle.cells.proofs.Walked.{closed_form, leads_back}
 use Rattle.cells.proofs.cells.calls.made.Goals as goal
 
-pub invariant-of-result : goal.invariant-of-result
-invariant-of-result c =
+pub invariant_of-result : goal.invariant_of-result
+invariant_of-result c =
     let i = is_cell_lem c.args.plain c.requires in
-    (c.requires, (i.d_low, (i.d_high, (i.l_high, tt))))
+    record { ok = c.requires; d_low = i.d_low; d_high = i.d_high; l_high = i.l_high }
 
 pub returns : goal.returns
 returns c =

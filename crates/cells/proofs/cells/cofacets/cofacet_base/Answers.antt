@@ -20,7 +20,7 @@ loop-j-preserved c =
     let r = c.args.cell.now.plain in
     let x = get_or r.base c.loop-j.j (pos 0) in
     let fit : SFits w32 (get_or r.base c.loop-j.j (pos 0)) = search rules in
-    filled_more_signed w32 (omega arith) (search rules) (c.lowered.ensures ∙ ap₂ (λ z b. z -ℤ pos (cond b 1 0)) (to_z-of_z w32 x fit) c.goes-down.ensures) c.loop-j.invariant
+    filled_more_signed w32 (omega arith) (search rules) (c.lowered.ensures ∙ ap₂ (λ z b. z -ℤ pos (cond b 1 0)) (to_z-of_z w32 x fit) c.goes_down.ensures) c.loop-j.invariant
 
 pub returns : goal.returns
 returns c = filled_all c.loop-j-test.false c.loop-j.invariant

@@ -6,7 +6,7 @@ pub loop-number-init : goal.loop-number-init
 loop-number-init g c = printed_none g.W.Write.write_str_gives decimal c.args.numbers.now c.args.f.now
 
 pub loop-number-preserved : goal.loop-number-preserved
-loop-number-preserved g c = printed_more g.W.Write.write_str_gives decimal c.args.numbers.now c.args.f.now c.loop-number.number-index c.loop-number.f c.write.new.self 0 (omega arith) c.loop-number.invariant (λ p. c.in-ok-write.ensures.shows p (refl {a = true}))
+loop-number-preserved g c = printed_more g.W.Write.write_str_gives decimal c.args.numbers.now c.args.f.now c.loop-number.number-index c.loop-number.f c.write.new.self 0 (omega arith) c.loop-number.invariant (λ p. c.in_ok-write.ensures.writes p (refl {a = true}))
 
 pub returns : goal.returns
 returns g c p e = printed_all g.W.Write.write_str_gives decimal c.args.numbers.now c.args.f.now c.loop-number.number-index c.loop-number.f (omega arith) c.loop-number.invariant p

@@ -12,14 +12,14 @@ use Rattle.cells.proofs.splits.calls.count_of_part.Goals as goal
 pub loop-j-init : goal.loop-j-init
 loop-j-init c = sym (ap (λ k. 2 ^ k) (chosen_none _))
 
-pub overflow-mul-sets : goal.overflow-mul-sets
-overflow-mul-sets c = let h = power_le (in_part c.args.r.now c.args.p) c.loop-j.j (omega arith) in omega arith
+pub overflow_mul-sets : goal.overflow_mul-sets
+overflow_mul-sets c = let h = power_le (in_part c.args.r.now c.args.p) c.loop-j.j (omega arith) in omega arith
 
 pub loop-j-preserved : goal.loop-j-preserved
 loop-j-preserved c = let e = power_more (in_part c.args.r.now c.args.p) c.loop-j.j in grind (arith, nat_tests)
 
-pub proper-sets-requires : goal.proper-sets-requires
-proper-sets-requires c =
+pub proper_sets-requires : goal.proper_sets-requires
+proper_sets-requires c =
     let h = power_two c.args.r.now (is_cell_lem _ c.requires.0) c.args.p c.requires.1.0 c.requires.1.1 in
     let e : c.loop-j.sets ≡ 2 ^ part_size c.args.r.now c.args.p = c.loop-j.invariant ∙ ap (λ j. 2 ^ length (chosen (in_part c.args.r.now c.args.p) j)) (omega arith) in
     omega arith
@@ -27,4 +27,4 @@ proper-sets-requires c =
 pub returns : goal.returns
 returns c =
     let e : c.loop-j.sets ≡ 2 ^ part_size c.args.r.now c.args.p = c.loop-j.invariant ∙ ap (λ j. 2 ^ length (chosen (in_part c.args.r.now c.args.p) j)) (omega arith) in
-    c.proper-sets.ensures ∙ ap (λ n. n - 2) e ∙ sym (count_of c.args.r.now c.args.p)
+    c.proper_sets.ensures ∙ ap (λ n. n - 2) e ∙ sym (count_of c.args.r.now c.args.p)

@@ -5,17 +5,17 @@ use Rattle.cells.proofs.Listing.{splits_none, length_part}
 use Rattle.cells.proofs.Counting.{part_le, count_le}
 use Rattle.cells.proofs.splits.calls.count_splits.Goals as goal
 
-pub overflow-add-p-end : goal.overflow-add-p-end
-overflow-add-p-end c = let i = is_cell_lem _ c.requires in omega (arith, i.d_high, i.l_high)
+pub overflow_add-p-end : goal.overflow_add-p-end
+overflow_add-p-end c = let i = is_cell_lem _ c.requires in omega (arith, i.d_high, i.l_high)
 
 pub loop-p-init : goal.loop-p-init
 loop-p-init c = sym (splits_none _)
 
-pub count-of-part-n-requires : goal.count-of-part-n-requires
-count-of-part-n-requires c = (c.requires, (omega arith, omega arith))
+pub count_of_part-n-requires : goal.count_of_part-n-requires
+count_of_part-n-requires c = (c.requires, (omega arith, omega arith))
 
-pub overflow-add-n : goal.overflow-add-n
-overflow-add-n c =
+pub overflow_add-n : goal.overflow_add-n
+overflow_add-n c =
     let i = is_cell_lem _ c.requires in
     let a = count_le c.args.r.now (c.loop-p.p - 1) in
     let b = part_le c.args.r.now c.loop-p.p in

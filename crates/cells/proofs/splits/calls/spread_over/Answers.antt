@@ -7,11 +7,11 @@ use Rattle.cells.proofs.splits.calls.spread_over.Goals as goal
 pub loop-j-init : goal.loop-j-init
 loop-j-init c = spreads_none _ _
 
-pub overflow-add-code : goal.overflow-add-code
-overflow-add-code c = let h = bit_low _ _ _ _ _ _ (omega arith) c.loop-j.invariant in let d = c.loop-j.invariant.done in omega arith
+pub overflow_add-code : goal.overflow_add-code
+overflow_add-code c = let h = bit_low _ _ _ _ _ _ (omega arith) c.loop-j.invariant in let d = c.loop-j.invariant.done in omega arith
 
-pub overflow-mul-bit : goal.overflow-mul-bit
-overflow-mul-bit c = let h = bit_low _ _ _ _ _ _ (omega arith) c.loop-j.invariant in omega arith
+pub overflow_mul-bit : goal.overflow_mul-bit
+overflow_mul-bit c = let h = bit_low _ _ _ _ _ _ (omega arith) c.loop-j.invariant in omega arith
 
 pub loop-j-preserved : goal.loop-j-preserved
 loop-j-preserved c = elim c.if-r-j.branch [
