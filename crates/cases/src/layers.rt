@@ -18,7 +18,8 @@ fn a_level_is_subtracted_and_may_leave_the_scale(rt: HostRuntime) -> Result<(), 
     has_rows(&rt, &level, &[1, 1], &[-32767])?;
     has_rows(&rt, &level, &[2, 1], &[-2])?;
     has_fault(&rt, &level, &[3, 0], Cause::Outside, 0, 1)?;
-    has_fault(&rt, &level, &[0, 0, 0], Cause::Outside, 0, 1).note("another d")
+    // another d
+    has_fault(&rt, &level, &[0, 0, 0], Cause::Outside, 0, 1)
 }
 
 #[test]
@@ -42,8 +43,10 @@ fn each_row_has_its_own_level(rt: HostRuntime) -> Result<(), Fail> {
     let samples = [100, 200, -32767, 0, 0, 32767, 1, 2, 3, 4];
     let level = Level::new(Table::new(frame, &samples), [10, -20, -32768]);
     has_rows(&rt, &level, &[0, 0, 0], &[90, 220])?;
-    has_fault(&rt, &level, &[1, 0, 0], Cause::OffScale, 1, 1).note("row 1")?;
-    has_fault(&rt, &level, &[0, 1, 0], Cause::OffScale, 2, 1).note("row 2")?;
+    // row 1
+    has_fault(&rt, &level, &[1, 0, 0], Cause::OffScale, 1, 1)?;
+    // row 2
+    has_fault(&rt, &level, &[0, 1, 0], Cause::OffScale, 2, 1)?;
     has_rows(&rt, &level, &[0, 0, 1], &[-7, 24])
 }
 
@@ -72,7 +75,8 @@ fn a_fault_from_below_goes_up_as_it_is(rt: HostRuntime) -> Result<(), Fail> {
     has_fault(&rt, &level, &[1, 1], Cause::Blank, 4, 0)?;
     has_fault(&rt, &level, &[2, 1], Cause::Blank, 5, 0)?;
     let window = Window::new(&table, own, [1, 0, 0, 0, 0, 0]);
-    has_fault(&rt, &window, &[0, 1], Cause::Blank, 4, 0).note("its place in the table's box")
+    // its place in the table's box
+    has_fault(&rt, &window, &[0, 1], Cause::Blank, 4, 0)
 }
 
 #[test]
@@ -93,8 +97,10 @@ fn a_corner_is_added(rt: HostRuntime) -> Result<(), Fail> {
     has_rows(&rt, &window, &[0, 1], &[22])?;
     has_rows(&rt, &window, &[1, 1], &[23])?;
     has_fault(&rt, &window, &[2, 0], Cause::Outside, 0, 1)?;
-    has_fault(&rt, &window, &[-1, 0], Cause::Outside, 0, 1).note("in the box below")?;
-    has_fault(&rt, &window, &[0, 0, 0], Cause::Outside, 0, 1).note("another d")
+    // in the box below
+    has_fault(&rt, &window, &[-1, 0], Cause::Outside, 0, 1)?;
+    // another d
+    has_fault(&rt, &window, &[0, 0, 0], Cause::Outside, 0, 1)
 }
 
 #[test]
@@ -131,7 +137,8 @@ fn missing_sides_are_1(rt: HostRuntime) -> Result<(), Fail> {
     has_rows(&rt, &window, &[1, 1, 0], &[7, 70])?;
     has_fault(&rt, &window, &[0, 0, 1], Cause::Blank, 8, 0)?;
     has_fault(&rt, &window, &[0, 0, 2], Cause::Outside, 0, 1)?;
-    has_fault(&rt, &window, &[0, 0], Cause::Outside, 0, 1).note("the d of its own frame")
+    // the d of its own frame
+    has_fault(&rt, &window, &[0, 0], Cause::Outside, 0, 1)
 }
 
 #[test]
@@ -146,12 +153,15 @@ fn a_window_may_hang_over_the_edge(rt: HostRuntime) -> Result<(), Fail> {
     let table = Table::new(frame, &samples);
     let window = Window::new(&table, own, [2, 1, 0, 0, 0, 0]);
     has_rows(&rt, &window, &[1, 1], &[23])?;
-    has_fault(&rt, &window, &[2, 0], Cause::Outside, 0, 0).note("4 1 below")?;
-    has_fault(&rt, &window, &[0, 2], Cause::Outside, 0, 0).note("2 3 below")?;
+    // 4 1 below
+    has_fault(&rt, &window, &[2, 0], Cause::Outside, 0, 0)?;
+    // 2 3 below
+    has_fault(&rt, &window, &[0, 2], Cause::Outside, 0, 0)?;
     has_fault(&rt, &window, &[3, 0], Cause::Outside, 0, 1)?;
     let level = Level::new(&table, [0; 3]);
     let over = Window::new(&level, own, [2, 1, 0, 0, 0, 0]);
-    has_fault(&rt, &over, &[2, 0], Cause::Outside, 0, 1).note("outside the level")?;
+    // outside the level
+    has_fault(&rt, &over, &[2, 0], Cause::Outside, 0, 1)?;
     has_fault(&rt, &over, &[3, 0], Cause::Outside, 0, 2)?;
     let far = Window::new(&table, own, [65535; 6]);
     has_fault(&rt, &far, &[2, 2], Cause::Outside, 0, 0)
@@ -178,7 +188,8 @@ fn a_pile_tells_the_height_of_each_fault(rt: HostRuntime) -> Result<(), Fail> {
     has_rows(&rt, &pile, &[1, 1], &[32764])?;
     has_rows(&rt, &pile, &[2, 1], &[-32767])?;
     has_fault(&rt, &pile, &[3, 0], Cause::Outside, 0, 3)?;
-    has_fault(&rt, &pile, &[0, 0, 0], Cause::Outside, 0, 3).note("another d")
+    // another d
+    has_fault(&rt, &pile, &[0, 0, 0], Cause::Outside, 0, 3)
 }
 
 #[test]

@@ -33,10 +33,13 @@ fn the_ends_of_the_scale_are_values(rt: HostRuntime) -> Result<(), Fail> {
     let quadric = Quadric::new(frame, [up, down, NOTHING]);
     has_rows(&rt, &quadric, &[0, 0, 0], &[32766, -32766])?;
     has_rows(&rt, &quadric, &[1, 0, 0], &[32767, -32767])?;
-    has_fault(&rt, &quadric, &[1, 1, 0], Cause::OffScale, 3, 0).note("32768 in row 1")?;
-    has_fault(&rt, &quadric, &[1, 0, 1], Cause::OffScale, 5, 0).note("-32768 in row 2")?;
+    // 32768 in row 1
+    has_fault(&rt, &quadric, &[1, 1, 0], Cause::OffScale, 3, 0)?;
+    // -32768 in row 2
+    has_fault(&rt, &quadric, &[1, 0, 1], Cause::OffScale, 5, 0)?;
     has_rows(&rt, &quadric, &[0, 1, 1], &[32767, -32767])?;
-    has_fault(&rt, &quadric, &[1, 1, 1], Cause::OffScale, 7, 0).note("both rows")
+    // both rows
+    has_fault(&rt, &quadric, &[1, 1, 1], Cause::OffScale, 7, 0)
 }
 
 #[test]
@@ -130,7 +133,8 @@ fn outside_its_box_a_quadric_has_no_values(rt: HostRuntime) -> Result<(), Fail> 
     has_rows(&rt, &quadric, &[2, 1], &[0])?;
     has_fault(&rt, &quadric, &[3, 1], Cause::Outside, 0, 0)?;
     has_fault(&rt, &quadric, &[2, -1], Cause::Outside, 0, 0)?;
-    has_fault(&rt, &quadric, &[0, 0, 0], Cause::Outside, 0, 0).note("another d")
+    // another d
+    has_fault(&rt, &quadric, &[0, 0, 0], Cause::Outside, 0, 0)
 }
 
 #[test]

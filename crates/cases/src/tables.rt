@@ -111,5 +111,6 @@ fn outside_the_box_has_place_0(rt: HostRuntime) -> Result<(), Fail> {
     has_fault(&rt, &table, &[0, 2], Cause::Outside, 0, 0)?;
     has_fault(&rt, &table, &[-1, 1], Cause::Outside, 0, 0)?;
     has_fault(&rt, &table, &[0, -2147483648], Cause::Outside, 0, 0)?;
-    has_fault(&rt, &table, &[0, 0, 0], Cause::Outside, 0, 0).note("another d")
+    // another d
+    has_fault(&rt, &table, &[0, 0, 0], Cause::Outside, 0, 0)
 }

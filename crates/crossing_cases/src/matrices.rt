@@ -22,34 +22,37 @@ fn two_rows(rt: HostRuntime) -> Result<(), Fail> {
     has_class(&rt, 2, &[2, 0, 0, 2, -1, -1], Class::Crossed)?;
     has_class(&rt, 2, &[1, 0, -1, 0, 0, 1], Class::Degenerate)?;
     has_class(&rt, 2, &[1, 1, 2, 2, 3, 3], Class::Degenerate)?;
-    has_class(&rt, 2, &[3, -1, -1, 3, 2, 2], Class::Clear).note("both rows change sign")?;
-    has_class(&rt, 2, &[1, 0, 1, 0, 0, 1], Class::Clear).note("weights 1, -1, 0")
+    // both rows change sign
+    has_class(&rt, 2, &[3, -1, -1, 3, 2, 2], Class::Clear)?;
+    // weights 1, -1, 0
+    has_class(&rt, 2, &[1, 0, 1, 0, 0, 1], Class::Clear)
 }
 
 #[test]
 fn three_rows_that_depend_on_each_other(rt: HostRuntime) -> Result<(), Fail> {
+    // rank 2
     has_class(
         &rt,
         3,
         &[1, 0, 0, 0, 1, 0, 1, 1, 0, -2, -3, 0],
         Class::Degenerate,
-    )
-    .note("rank 2")?;
+    )?;
+    // rank 1
     has_class(
         &rt,
         3,
         &[1, 2, 3, 2, 4, 6, 3, 6, 9, -1, -2, -3],
         Class::Degenerate,
-    )
-    .note("rank 1")?;
-    has_class(&rt, 3, &[0; 12], Class::Degenerate).note("rank 0")?;
+    )?;
+    // rank 0
+    has_class(&rt, 3, &[0; 12], Class::Degenerate)?;
+    // a zero beside one sign
     has_class(
         &rt,
         3,
         &[1, 0, 0, 0, 1, 0, -1, -1, 0, 0, 0, 1],
         Class::Degenerate,
     )
-    .note("a zero beside one sign")
 }
 
 #[test]

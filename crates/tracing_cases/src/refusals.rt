@@ -174,7 +174,8 @@ fn a_record_that_does_not_fit_is_refused_at_place_next(rt: HostRuntime) -> Resul
     let spent = answer(0, Ending::Spent);
     assert_eq!(rt; trace.step(&table, &mut list, 0), spent);
     list[1] = edge_record(2, 1, [1, 2, 2]);
-    is_refused(&rt, &mut trace, &table, &mut list, Refusal::DoesNotFit).note("outside the box")?;
+    // outside the box
+    is_refused(&rt, &mut trace, &table, &mut list, Refusal::DoesNotFit)?;
     list[1] = worked_road()[1];
     assert_eq!(rt; trace.step(&table, &mut list, 1000).taken, 24);
     Ok(())

@@ -12,7 +12,7 @@ loop-i-init c = signs_none (entry c.args.numbers.now) _ (sym (some_none _)) (sym
 pub loop-i-preserved : goal.loop-i-preserved
 loop-i-preserved c =
     let xs = c.args.numbers.now in
-    signs_more (entry xs) c.loop-i.i _ c.loop-i.signs c.with-sign-signs.result c.loop-i.invariant (to_z-of_z w64 (entry xs c.loop-i.i) (search rules)) c.with-sign-signs.ensures.above c.with-sign-signs.ensures.below c.with-sign-signs.ensures.level
+    signs_more (entry xs) c.loop-i.i _ c.loop-i.signs c.with_sign-signs.result c.loop-i.invariant (to_z-of_z w64 (entry xs c.loop-i.i) (search rules)) c.with_sign-signs.ensures.above c.with_sign-signs.ensures.below c.with_sign-signs.ensures.level
 
 pub returns : goal.returns
 returns c = let e : c.loop-i.i ≡ c.args.n = omega arith in c.loop-i.invariant ∙ ap (signs_below (entry c.args.numbers.now)) e

@@ -13,8 +13,8 @@ all c =
     (kept (answered (c.product.ensures.is ∙ ap₂ ◌*ℤ◌ (to_z-of_z w16 _ ra) (to_z-of_z w16 _ sb)) c.product.ensures.small) (lit< tt))
     (kept (answered (c.product-2.ensures.is ∙ ap₂ ◌*ℤ◌ (to_z-of_z w16 _ sa) (to_z-of_z w16 _ rb)) c.product-2.ensures.small) (lit< tt))
 
-pub overflow-sub-result : goal.overflow-sub-result
-overflow-sub-result c = fits (all c) (lit< tt)
+pub overflow_sub-result : goal.overflow_sub-result
+overflow_sub-result c = fits (all c) (lit< tt)
 
 pub returns : goal.returns
 returns c = let whole = kept (all c) (lit< tt) in record { is = whole.same; small = size whole }

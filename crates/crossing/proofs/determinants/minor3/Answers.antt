@@ -7,16 +7,16 @@ use Rattle.crossing.proofs.determinants.minor3.Goals as goal
 scaled_held : {r x m d : ℤ} → SFits w16 x → m ≡ d → nat_abs m ≤ 2 ^ 31 → r ≡ to_z w16 (of_z w16 x) *ℤ to_z w64 (of_z w64 m) → nat_abs r ≤ 2 ^ 46 → Held (2 ^ 46) (to_z w64 (of_z w64 r)) (x *ℤ d)
 scaled_held {x = x} f e l q s = kept (answered (q ∙ ap₂ ◌*ℤ◌ (to_z-of_z w16 x f) (kept (answered e l) (lit< tt)).same) s) (lit< tt)
 
-pub overflow-sub-result : goal.overflow-sub-result
-overflow-sub-result c =
+pub overflow_sub-result : goal.overflow_sub-result
+overflow_sub-result c =
     let f0 : SFits w16 (get_or c.args.a 0 (pos 0)) = search rules in
     let f1 : SFits w16 (get_or c.args.a 1 (pos 0)) = search rules in
     fits (difference_held
     (scaled_held f0 c.minor.ensures.is c.minor.ensures.small c.scaled.ensures.is c.scaled.ensures.small)
     (scaled_held f1 c.minor-2.ensures.is c.minor-2.ensures.small c.scaled-2.ensures.is c.scaled-2.ensures.small)) (lit< tt)
 
-pub overflow-add-result : goal.overflow-add-result
-overflow-add-result c =
+pub overflow_add-result : goal.overflow_add-result
+overflow_add-result c =
     let f0 : SFits w16 (get_or c.args.a 0 (pos 0)) = search rules in
     let f1 : SFits w16 (get_or c.args.a 1 (pos 0)) = search rules in
     let f2 : SFits w16 (get_or c.args.a 2 (pos 0)) = search rules in

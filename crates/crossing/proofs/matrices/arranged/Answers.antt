@@ -5,15 +5,15 @@ use Rattle.crossing.proofs.matrices.arranged.Goals as goal
 pub loop-i-init : goal.loop-i-init
 loop-i-init c = arranged_none refl
 
-pub row-from-requires : goal.row-from-requires
-row-from-requires c =
+pub row_from-requires : goal.row_from-requires
+row_from-requires c =
     let k = c.args.k in
     let i = c.loop-i.i in
     let le : c.loop-i.i ≤ c.args.k = omega arith in
     (c.requires.0, omega (arith, mul-le-mul_left k le, mul-add k k 1, c.requires.1))
 
 pub loop-i-preserved : goal.loop-i-preserved
-loop-i-preserved c = arranged_more c.row-from.result (omega (arith, c.requires.0)) c.row-from.ensures c.loop-i.invariant
+loop-i-preserved c = arranged_more c.row_from.result (omega (arith, c.requires.0)) c.row_from.ensures c.loop-i.invariant
 
 pub returns : goal.returns
 returns c = λ i r h g. c.loop-i.invariant.here i r (omega arith) g ∙ sym (by_vertex_value c.args.k c.args.values.now i r h g)

@@ -16,8 +16,8 @@ pub returns : goal.returns
 returns g c =
     let m = g.F.Field.meaning c.args.field.now in
     let r = c.args.cell.now.plain in
-    let at = c.in-ok-at.at in
-    let seen = c.in-ok-at.ensures in
+    let at = c.in_ok-at.at in
+    let seen = c.in_ok-at.ensures in
     let range = rows_range m r (g.F.Field.good c.args.field.now) c.requires in
     let is : c.decided.result ≡ class_of c.args.cell.now.plain.l (matrix_over (g.F.Field.meaning c.args.field.now) c.args.cell.now.plain) = c.decided.ensures.is ∙ ap (λ k. class_of k at) c.dimension.ensures.value ∙ class_same r.l at (matrix_over m r) range.0 range.1 seen.1 in
     record {

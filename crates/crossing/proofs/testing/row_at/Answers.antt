@@ -4,8 +4,8 @@ use Rattle.grid.specs.Vertices.{coordinates_of}
 use Rattle.crossing.proofs.Fitting.{answer_at}
 use Rattle.crossing.proofs.testing.row_at.Goals as goal
 
-pub returns-in-err-values : goal.returns-in-err-values
-returns-in-err-values g c =
-    let p = err_from_is_err_and c.from-residual.result c.from-residual.ensures.1 in
+pub returns-in_err-values : goal.returns-in_err-values
+returns-in_err-values g c =
+    let p = err_from_is_err_and c.from_residual.result c.from_residual.ensures.1 in
     let m = g.F.Field.meaning c.args.field.now in
-    rw (p.1, p.2) (sym (c.in-err-values.ensures ∙ answer_at m c.args.cell.now.plain c.args.i (coordinates_of c.in-Some.vertex) c.requires.0 c.requires.1 c.in-Some.ensures))
+    rw (p.1, p.2) (sym (c.in_err-values.ensures ∙ answer_at m c.args.cell.now.plain c.args.i (coordinates_of c.in-Some.vertex) c.requires.0 c.requires.1 c.in-Some.ensures))

@@ -10,12 +10,12 @@ use Rattle.crossing.proofs.testing.values_at.Goals as goal
 pub loop-i-init : goal.loop-i-init
 loop-i-init g c = (refl, arranged_none refl)
 
-pub returns-in-err-at : goal.returns-in-err-at
-returns-in-err-at g c =
-    let p = err_from_is_err_and c.from-residual.result c.from-residual.ensures.1 in
+pub returns-in_err-at : goal.returns-in_err-at
+returns-in_err-at g c =
+    let p = err_from_is_err_and c.from_residual.result c.from_residual.ensures.1 in
     let m = g.F.Field.meaning c.args.field.now in
     let r = c.args.cell.now.plain in
-    rw (p.1, p.2) (first_is m r (fault_numbers c.in-err-at.field-0.0) c.loop-i.i r.l (omega arith) c.loop-i.invariant.0 c.in-err-at.ensures)
+    rw (p.1, p.2) (first_is m r (fault_numbers c.in_err-at.field-0.0) c.loop-i.i r.l (omega arith) c.loop-i.invariant.0 c.in_err-at.ensures)
 
 pub bounds-at-i : goal.bounds-at-i
 bounds-at-i g c =
@@ -28,9 +28,9 @@ loop-i-preserved g c =
     let r = c.args.cell.now.plain in
     let i = c.loop-i.i in
     let o = outcome_at m r i in
-    let row = c.in-ok-at.field-0 in
+    let row = c.in_ok-at.field-0 in
     let range = rows_range m r (g.F.Field.good c.args.field.now) c.requires in
-    let here = c.in-ok-at.ensures in
+    let here = c.in_ok-at.ensures in
     (none_more m r i c.loop-i.invariant.0 (row_present r.l o row here), arranged_more row (omega (arith, range.1)) (row_values r.l o row here) c.loop-i.invariant.1)
 
 pub returns : goal.returns
