@@ -104,12 +104,12 @@ module _ (m : Meaning) (from : walk.State CellRecord) where
       module _ (b : CellRecord) (leads : leads_to (sides_in m) c t.pair ≡ Some b) where
         module _ (new : In b (take t.count xs) → ⊥) where
           goes_appended : (k : Bool) → ltb t.count (usable xs) ≡ k → test_answer m b ≡ Ok Crossed → Goes t (appended k c b t xs)
-          goes_appended true e r = goes_longer b (let l = ltb-true t.count (usable xs) e in omega arith) (walk.to-new b leads (ap says_crossed r) (λ i. new (rw listed_is at i)) refl)
+          goes_appended true e r = goes_longer b (let l = ltb-true t.count (usable xs) e in omega arith) (walk.to_new b leads (ap says_crossed r) (λ i. new (rw listed_is at i)) refl)
           goes_appended false e r = tt
 
           goes_judged : (r : Result Class RefusalNumbers) → test_answer m b ≡ r → Goes t (judged r c b t xs)
           goes_judged (Ok Crossed) e = goes_appended (ltb t.count (usable xs)) refl e
-          goes_judged (Ok Clear) e = goes_passed (walk.to-uncrossed b leads (ap says_crossed e) refl)
+          goes_judged (Ok Clear) e = goes_passed (walk.to_uncrossed b leads (ap says_crossed e) refl)
           goes_judged (Ok Degenerate) e = tt
           goes_judged (Err f) e = tt
 
@@ -123,7 +123,7 @@ module _ (m : Meaning) (from : walk.State CellRecord) where
         is_new e i = both_ways _ (or_parts (same_record b c) (holds same_record (take t.count xs) b) e).1 ((holds_is same_record record_exact (take t.count xs) b).1 i)
 
         goes_tried : (k : Bool) → (same_record b c || holds same_record (take t.count xs) b) ≡ k → Goes t (tried m k c b t xs)
-        goes_tried true e = goes_passed (walk.to-listed b leads (is_listed e) refl)
+        goes_tried true e = goes_passed (walk.to_listed b leads (is_listed e) refl)
         goes_tried false e = goes_judged (is_new e) (test_answer m b) refl
 
       goes_followed : (o : Option CellRecord) → leads_to (sides_in m) c t.pair ≡ o → Goes t (followed m o c t xs)

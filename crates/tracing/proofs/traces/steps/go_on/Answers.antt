@@ -21,5 +21,5 @@ pub loop-taken-preserved : goal.loop-taken-preserved
 loop-taken-preserved g c =
     let m = g.F.Field.meaning c.args.field.now in
     let whole = run m c.args.budget (trace_numbers c.args.trace.now) c.args.list.now in
-    let told = c.in-default.ensures in
+    let told = c.in_default.ensures in
     (goes_on m c.args.budget c.loop-taken.taken (trace_numbers c.loop-taken.trace) c.loop-taken.list whole c.loop-taken.invariant.0 c.loop-taken-test.true c.if-trace.false (trace_numbers c.treat.new.trace) c.treat.new.list told.turn, told.room)

@@ -3,8 +3,8 @@ use Rattle.tracing.specs.Sameness.{same_record}
 use Rattle.tracing.proofs.Lowest.{placed_if_held}
 use Rattle.tracing.proofs.traces.treating.is_known.Goals as goal
 
-pub returns-else-is-same : goal.returns-else-is-same
-returns-else-is-same c =
+pub returns-else-is_same : goal.returns-else-is_same
+returns-else-is_same c =
     let l = c.args.listed.now in
     let held = placed_if_held same_record c.args.facet.now.plain (take l.count l.places.now) in
     search rules

@@ -10,27 +10,27 @@ use Rattle.tracing.proofs.traces.treating.treat.Goals as goal
 pub advance-requires : goal.advance-requires
 advance-requires g c =
     let m = g.F.Field.meaning c.args.field.now in
-    let cell = c.in-ok-cell.cell in
-    let below = pair_below m (trace_numbers c.args.trace.now) c.args.list.now cell.plain (frame_numbers c.frame-frame.result) c.frame-frame.ensures c.in-ok-cell.ensures in
+    let cell = c.in_ok-cell.cell in
+    let below = pair_below m (trace_numbers c.args.trace.now) c.args.list.now cell.plain (frame_numbers c.frame-frame.result) c.frame-frame.ensures c.in_ok-cell.ensures in
     let few = pairs_few cell.plain cell.ok in
     let n = c.pairs.ensures in
     (c.requires.0, (omega arith, omega arith))
 
-pub returns-in-err-take-up : goal.returns-in-err-take-up
-returns-in-err-take-up g c =
+pub returns-in_err-take_up : goal.returns-in_err-take_up
+returns-in_err-take_up g c =
     let m = g.F.Field.meaning c.args.field.now in
-    let told = c.in-err-take-up.ensures in
-    let turn = treated m (trace_numbers c.args.trace.now) c.args.list.now c.in-ok-cell.cell.plain (frame_numbers c.frame-frame.result) c.frame-frame.ensures c.in-ok-cell.ensures (Some c.in-Some.facet.plain) c.in-Some.ensures (stopped (refusal_numbers c.in-err-take-up.field-0.0)) told.turn in
-    let p = err_from_is_err_and c.from-residual-in-err-take-up.result c.from-residual-in-err-take-up.ensures.1 in
+    let told = c.in_err-take_up.ensures in
+    let turn = treated m (trace_numbers c.args.trace.now) c.args.list.now c.in_ok-cell.cell.plain (frame_numbers c.frame-frame.result) c.frame-frame.ensures c.in_ok-cell.ensures (Some c.in-Some.facet.plain) c.in-Some.ensures (stopped (refusal_numbers c.in_err-take_up.field-0.0)) told.turn in
+    let p = err_from_is_err_and c.from_residual-in_err-take_up.result c.from_residual-in_err-take_up.ensures.1 in
     rw (p.1, p.2) (record { turn = turn; unchanged = told.unchanged; room = told.kept.room })
 
 pub advance-requires-2 : goal.advance-requires-2
 advance-requires-2 g c =
     let m = g.F.Field.meaning c.args.field.now in
-    let cell = c.in-ok-cell.cell in
-    let below = pair_below m (trace_numbers c.args.trace.now) c.args.list.now cell.plain (frame_numbers c.frame-frame.result) c.frame-frame.ensures c.in-ok-cell.ensures in
+    let cell = c.in_ok-cell.cell in
+    let below = pair_below m (trace_numbers c.args.trace.now) c.args.list.now cell.plain (frame_numbers c.frame-frame.result) c.frame-frame.ensures c.in_ok-cell.ensures in
     let few = pairs_few cell.plain cell.ok in
     let n = c.pairs-2.ensures in
-    let kept = c.take-up.ensures.kept in
+    let kept = c.take_up.ensures.kept in
     let p = c.requires.0 in
     (omega arith, (omega arith, omega arith))
