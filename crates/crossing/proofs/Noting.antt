@@ -2,7 +2,7 @@
 use Rattle.std.proofs.Common.{◌≡◌, ℕ, zero, suc, ◌+◌, ◌<◌, Bool, ◌&&◌, ◌||◌, ℤ, pos, sym, refl, ap, ◌∙◌, subst, ap₂, arith}
 use lib.Signed.{le_z, lt_z}
 use Rattle.grid.specs.Below.{some_below}
-use Rattle.grid.proofs.Below.{some_more, some_none}
+use Rattle.grid.proofs.Below.{some_more}
 use Rattle.crossing.specs.Determinants.{is_above, is_below, is_level, signs_below}
 use Rattle.crossing.specs.declared.signs.Signs.{Signs}
 

@@ -1,9 +1,9 @@
 -- The test answers a class exactly for the cells that have it over the field, and over alike fields a cell has the same class.
-use Rattle.std.proofs.Common.{◌≡◌, ℕ, ◌+◌, ◌<◌, ◌≤◌, Bool, true, false, cond, ◌↔◌, List, [], ℤ, Some, None, Ok, Err, Option, Result, sym, refl, ap, ◌∙◌, subst, arith}
+use Rattle.std.proofs.Common.{◌≡◌, ℕ, ◌+◌, ◌≤◌, Bool, true, false, cond, ◌↔◌, [], Some, None, Ok, Err, Option, Result, sym, refl, ap, ◌∙◌, subst, arith}
 use Rattle.std.proofs.lemmas.Bool.{cond-true}
 use Rattle.grid.specs.Faults.{FaultNumbers}
 use Rattle.grid.specs.Frames.{FrameNumbers}
-use Rattle.grid.specs.Refusals.{refusal, RefusalNumbers}
+use Rattle.grid.specs.Refusals.{refusal}
 use Rattle.grid.proofs.Below.{same_table}
 use Rattle.cells.specs.declared.records.CellRecord.{CellRecord}
 use Rattle.fields.specs.Alike.{Alike, AlikeOutcomes}
@@ -11,10 +11,10 @@ use Rattle.fields.specs.Fields.{fault, Good, Meaning, Outcome, values}
 use Rattle.crossing.specs.Boxes.{fits_frame}
 use Rattle.crossing.specs.Crossing.{ClassOver, faulty, first_fault, HasValues, matrix_over, outcome_at, rows_in, test_answer, unless_fault}
 use Rattle.crossing.specs.Determinants.{class_of}
-use Rattle.crossing.specs.Weights.{Given, IsClass, Matrix}
+use Rattle.crossing.specs.Weights.{Given, IsClass}
 use Rattle.crossing.specs.declared.classes.Class.{Class}
 use Rattle.crossing.proofs.FirstFault.{all_present, no_fault}
-use Rattle.crossing.proofs.Fitting.{Fits, fits_parts, rows_range}
+use Rattle.crossing.proofs.Fitting.{fits_parts, rows_range}
 use Rattle.crossing.proofs.Giving.{given}
 
 not_both : {X Y : Type 0} (y : Y) (x : X) → ◌≡◌ {A = Result X Y} (Err y) (Ok x) → ⊥

@@ -1,12 +1,12 @@
 -- Layers keep alikeness.
-use Rattle.std.proofs.Common.{◌≡◌, ℕ, Bool, true, false, cond, List, ℤ, Some, None, sym, refl, ap, ◌∙◌, subst}
+use Rattle.std.proofs.Common.{◌≡◌, ℕ, Bool, true, false, cond, List, ℤ, Some, None, refl, ap, subst}
 use Rattle.std.proofs.lemmas.Bool.{both_ways}
 use Rattle.grid.specs.Boxes.{in_box}
 use Rattle.grid.specs.Faults.{FaultNumbers}
 use Rattle.grid.specs.Frames.{fitted_sides}
 use Rattle.fields.specs.Alike.{Alike, AlikeLaws, AlikeOutcomes, SameMeaning}
 use Rattle.fields.specs.Fields.{answer, fault, fault_of, Meaning, or_fault, Outcome, sides_in, values}
-use Rattle.fields.specs.Levels.{height_over, less_levels, levelled, level_meaning}
+use Rattle.fields.specs.Levels.{less_levels, levelled, level_meaning}
 use Rattle.fields.specs.Scale.{all_on_scale, graded}
 use Rattle.fields.specs.Windows.{plus_corner, window_meaning}
 

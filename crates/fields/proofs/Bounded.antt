@@ -1,5 +1,5 @@
 -- How large the parts of a quadric are, for coefficients of 16 bits and coordinates from 0 to 1,000.
-use Rattle.std.proofs.Common.{◌≡◌, ℕ, zero, suc, ◌+◌, ◌*◌, ◌^◌, ◌<◌, ◌≤◌, true, ℤ, pos, negsuc, ◌+ℤ◌, ◌*ℤ◌, neg_ℤ, nat_abs, refl, ap, mul-le-mul, arith, w16, w32, w64, SFits}
+use Rattle.std.proofs.Common.{◌≡◌, ℕ, zero, suc, ◌+◌, ◌*◌, ◌^◌, ◌<◌, ◌≤◌, true, ℤ, pos, negsuc, ◌+ℤ◌, ◌*ℤ◌, neg_ℤ, nat_abs, refl, mul-le-mul, arith, w16, w64, SFits}
 use Rattle.std.proofs.lemmas.Int.{ints}
 use Rattle.grid.specs.Boxes.{on_axis}
 use Rattle.grid.proofs.Places.{on_axis_is}

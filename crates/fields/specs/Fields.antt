@@ -1,5 +1,5 @@
 -- What a field means: its numbers, and an outcome for each vertex of its box.
-use Rattle.std.specs.Prelude.{◌≡◌, ℕ, ◌≤◌, Bool, true, cond, List, length, ℤ, Some, None, Ok, Err, Option, Result}
+use Rattle.std.specs.Prelude.{◌≡◌, ℕ, ◌≤◌, true, cond, List, length, ℤ, Some, None, Ok, Err, Option, Result}
 use Rattle.grid.specs.Boxes.{in_box}
 use Rattle.grid.specs.Faults.{FaultNumbers, fault_numbers}
 use Rattle.grid.specs.Frames.{FrameNumbers, is_frame}

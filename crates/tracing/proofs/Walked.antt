@@ -17,7 +17,7 @@ use Rattle.walk.proofs.Members.{holds_is, in_right}
 use Rattle.tracing.specs.Sameness.{same_record}
 use Rattle.tracing.specs.Search.{usable}
 use Rattle.tracing.specs.Steps.{appended, fitted, followed, going, judged, leads_to, moved, no_cell, numbered, passed, run, Stepped, stopped, treat, tried, Turn, turned}
-use Rattle.tracing.specs.Traces.{further, longer, onward, TraceNumbers}
+use Rattle.tracing.specs.Traces.{further, longer, TraceNumbers}
 use Rattle.tracing.proofs.Grounded.{ground_of, says_crossed}
 use Rattle.tracing.specs.Exact.{record_exact}
 

@@ -1,5 +1,5 @@
 -- What step does: pair by pair of the cell at place next, until it is finished, its budget is spent, or a pair is refused.
-use Rattle.std.specs.Prelude.{ℕ, zero, suc, ◌+◌, ◌/◌, ◌%◌, Bool, true, false, cond, ◌||◌, List, [], ◌∷◌, length, take, Some, None, Ok, Err, Option, Result, ◌==◌, nat_lt, slice_index_or, slice_set}
+use Rattle.std.specs.Prelude.{ℕ, zero, suc, ◌+◌, ◌/◌, ◌%◌, Bool, true, false, cond, ◌||◌, List, [], length, take, Some, None, Ok, Err, Option, Result, ◌==◌, nat_lt, slice_index_or, slice_set}
 use Rattle.grid.specs.Lists.{holds}
 use Rattle.grid.specs.Refusals.{refusal, RefusalNumbers}
 use Rattle.cells.specs.Cofacets.{cofacet_answer}

@@ -1,5 +1,5 @@
 use Rattle.std.proofs.Common.{lit<}
-use Rattle.crossing.proofs.Sizes.{Held, kept, product_held, read16, size}
+use Rattle.crossing.proofs.Sizes.{kept, product_held, read16, size}
 use Rattle.crossing.proofs.determinants.product.Goals as goal
 
 pub returns : goal.returns

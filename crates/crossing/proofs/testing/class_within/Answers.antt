@@ -2,7 +2,6 @@ use Rattle.std.proofs.Common.{◌≡◌, Ok, Option, sym, ap, ◌∙◌, arith}
 use Rattle.grid.specs.Faults.{FaultNumbers}
 use Rattle.crossing.specs.Crossing.{matrix_over, unless_fault}
 use Rattle.crossing.specs.Determinants.{class_of}
-use Rattle.crossing.specs.declared.classes.Class.{Class}
 use Rattle.crossing.proofs.Fitting.{rows_range}
 use Rattle.crossing.proofs.Giving.{class_same}
 use Rattle.crossing.proofs.testing.class_within.Goals as goal

@@ -1,8 +1,8 @@
-use Rattle.std.proofs.Common.{◌≡◌, ℕ, ◌+◌, ◌*◌, ◌^◌, ◌<◌, ◌≤◌, length, get_or, ℤ, pos, ◌+ℤ◌, nat_abs, sym, ap, ◌∙◌, ap₂, arith, w16, w32, w64, SFits, to_z, of_z, rules}
+use Rattle.std.proofs.Common.{◌≡◌, ℕ, ◌+◌, ◌*◌, ◌^◌, ◌<◌, ◌≤◌, length, get_or, ℤ, pos, ◌+ℤ◌, nat_abs, ap, ◌∙◌, arith, w16, w32, w64, SFits, to_z, of_z, rules}
 use Rattle.std.proofs.lemmas.Int.{ints, to_z-of_z}
 use Rattle.grid.specs.Sums.{sum_below}
 use Rattle.grid.proofs.Summed.{sum_more, sum_zero}
-use Rattle.fields.specs.Quadrics.{axis_part, part_at}
+use Rattle.fields.specs.Quadrics.{part_at}
 use Rattle.fields.proofs.Bounded.{abs_16, abs-add, abs_fits}
 use Rattle.fields.proofs.quadrics.row_at.Goals as goal
 

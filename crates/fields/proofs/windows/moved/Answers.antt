@@ -1,4 +1,4 @@
-use Rattle.std.proofs.Common.{◌≡◌, ℕ, true, cond, List, length, get_or, take, ℤ, pos, ◌+ℤ◌, Some, None, sym, ap, ◌∙◌, arith}
+use Rattle.std.proofs.Common.{◌≡◌, ℕ, true, cond, List, length, get_or, take, ℤ, pos, ◌+ℤ◌, Some, None, sym, ap, ◌∙◌}
 use native.Mathlib.Nat.{sub-zero}
 use Rattle.std.proofs.lemmas.Bool.{cond-true}
 use Rattle.grid.specs.Boxes.{in_box}
