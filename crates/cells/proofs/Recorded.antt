@@ -6,14 +6,14 @@ use Rattle.std.specs.Cmp.Lexicographic.{pointwise}
 use Rattle.std.proofs.lemmas.Slice.Eq.{slice_eq-Decides}
 use Rattle.std.proofs.lemmas.Bool.{and_from, and_parts}
 use Rattle.std.proofs.lemmas.Bool.Decides.{Decides-eqb, Decides-int_eq}
-use Rattle.cells.specs.Records.{record_eq}
+use Rattle.cells.specs.Records.{RecordEqExact}
 use Rattle.cells.specs.declared.records.CellRecord.{CellRecord}
 
 pub same_record_lem : (r s : CellRecord) → r.d ≡ s.d → r.l ≡ s.l → r.base ≡ s.base → r.labels ≡ s.labels → r ≡ s
 same_record_lem r s d l b x = λ i. record { d = d i; l = l i; base = b i; labels = x i }
 
 -- the test for equality says yes exactly for equal records
-pub record_eq_exact : (r s : CellRecord) → Decides (record_eq r s) (r ≡ s)
+pub record_eq_exact : RecordEqExact
 record_eq_exact r s =
     let d : Decides (eqb r.d s.d) (r.d ≡ s.d) = Decides-eqb r.d s.d in
     let l : Decides (eqb r.l s.l) (r.l ≡ s.l) = Decides-eqb r.l s.l in

@@ -30,7 +30,8 @@ impl PartialEq for CellRecord {
 }
 
 fn are_same(x: &CellRecord, y: &CellRecord) -> bool
-    ensures { Decides result (x.now ≡ y.now) }
+    ensures tells { result ≡ record_eq x.now y.now }
+    ensures exact { Decides result (x.now ≡ y.now) }
 {
     if x.d != y.d || x.l != y.l {
         return false;

@@ -1,6 +1,6 @@
 // The determinants of a matrix without one vertex.
 ghost use Rattle.std.specs.Prelude.{◌≡◌, ℕ, ◌+◌, ◌*◌, ◌^◌, ◌<◌, ◌≤◌, [], ◌∷◌, pos, ◌*ℤ◌, slice_index_or, unsigned_abs};
-ghost use Rattle.crossing.specs.Determinants.{alternating, determinant as determinantOf, minor as minorOf, minor3 as minorOf3, passing as passing_of, signed_determinant};
+ghost use Rattle.crossing.specs.Determinants.{alternating, determinant as determinant_of, minor as minor_of, minor3 as minor3_of, passing as passing_of, signed_determinant};
 ghost use Rattle.crossing.specs.Weights.{value};
 
 // Entry i, for i from 0 to k, is the determinant without vertex i, with alternating sign.
@@ -25,7 +25,7 @@ fn alternated(i: usize, x: i64) -> i64
 // The determinant of the k rows at all vertices but vertex i.
 fn without(k: u8, at: &[[i16; 3]; 4], i: usize) -> i64
     requires { (1 ≤ k) × ((k ≤ 3) × (i < 4)) }
-    ensures is { result ≡ determinantOf k (λ j. value at.now (passing_of i j)) }
+    ensures is { result ≡ determinant_of k (λ j. value at.now (passing_of i j)) }
     ensures small { unsigned_abs result ≤ 2 ^ 48 }
 {
     match k {
@@ -47,7 +47,7 @@ fn passing(i: usize, j: usize) -> usize
 // The determinant of rows r and s at two vertices.
 fn minor(a: [i16; 3], b: [i16; 3], r: usize, s: usize) -> i64
     requires { (r < 3) × (s < 3) }
-    ensures is { result ≡ minorOf (value (a ∷ b ∷ [])) 0 1 r s }
+    ensures is { result ≡ minor_of (value (a ∷ b ∷ [])) 0 1 r s }
     ensures small { unsigned_abs result ≤ 2 ^ 31 }
 {
     product(a[r], b[s]) - product(a[s], b[r])
@@ -62,7 +62,7 @@ fn product(x: i16, y: i16) -> i64
 
 // The determinant of three rows at three vertices.
 fn minor3(a: [i16; 3], b: [i16; 3], c: [i16; 3]) -> i64
-    ensures is { result ≡ minorOf3 (value (a ∷ b ∷ c ∷ [])) 0 1 2 }
+    ensures is { result ≡ minor3_of (value (a ∷ b ∷ c ∷ [])) 0 1 2 }
     ensures small { unsigned_abs result ≤ 2 ^ 48 }
 {
     scaled(a[0], minor(b, c, 1, 2)) - scaled(a[1], minor(b, c, 0, 2))

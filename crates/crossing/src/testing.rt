@@ -2,7 +2,7 @@
 ghost use Rattle.std.specs.Prelude.{◌≡◌, ◌+◌, ◌≤◌, true, Some, None, MatchResult, OnOk};
 ghost use Rattle.grid.specs.Faults.{fault_numbers};
 ghost use Rattle.grid.specs.Refusals.{answered};
-ghost use Rattle.fields.specs.Fields.{fault as faultWith};
+ghost use Rattle.fields.specs.Fields.{fault as fault_with};
 ghost use Rattle.crossing.specs.Boxes.{fits_frame};
 ghost use Rattle.crossing.specs.Crossing.{first_fault, matrix_over, outcome_at, raised, RowIn, test_answer, unless_fault};
 ghost use Rattle.crossing.specs.Determinants.{class_of};
@@ -55,7 +55,7 @@ fn values_at<F: Field>(field: &F, cell: &Cell) -> Result<[[i16; 3]; 4], Fault>
 // The values at vertex i of a cell that fits.
 fn row_at<F: Field>(field: &F, cell: &Cell, i: u32) -> Result<[i16; 3], Fault>
     requires { (fits_frame (F.Field.meaning field.now).frame cell.now.plain ≡ true) × (i ≤ cell.now.plain.l) }
-    ensures { MatchResult result (λ row. RowIn cell.now.plain.l (outcome_at (F.Field.meaning field.now) cell.now.plain i) row) (λ f. outcome_at (F.Field.meaning field.now) cell.now.plain i ≡ faultWith (fault_numbers f)) }
+    ensures { MatchResult result (λ row. RowIn cell.now.plain.l (outcome_at (F.Field.meaning field.now) cell.now.plain i) row) (λ f. outcome_at (F.Field.meaning field.now) cell.now.plain i ≡ fault_with (fault_numbers f)) }
 {
     let Some(vertex) = cell.vertex(i) else {
         unreachable()

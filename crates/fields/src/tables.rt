@@ -3,7 +3,7 @@ ghost use Rattle.std.specs.Prelude.{◌≡◌, ◌+◌, ◌^◌, ◌<◌, ◌≤
 ghost use Rattle.std.specs.Option.{option_map};
 ghost use Rattle.grid.specs.Frames.{frame_numbers};
 ghost use Rattle.fields.specs.Ranges.{table_good};
-ghost use Rattle.fields.specs.Tables.{sampled as sampledRows, samples_from, table_meaning};
+ghost use Rattle.fields.specs.Tables.{sampled as sampled_rows, samples_from, table_meaning};
 ghost use Rattle.fields.specs.Values.{rows_of};
 
 use crate::asking::{Field, outside};
@@ -56,7 +56,7 @@ impl<'a> Field for Table<'a> {
 // The k samples of vertex number m, if all are there and on the scale.
 fn sampled(samples: &[i16], k: u8, m: u64) -> Option<Values>
     requires { (1 ≤ k) × ((k ≤ 3) × (m < 2 ^ 60)) }
-    ensures { option_map rows_of result ≡ sampledRows k m samples.now }
+    ensures { option_map rows_of result ≡ sampled_rows k m samples.now }
 {
     let first = k as usize * m as usize;
     if first + k as usize > samples.len() {

@@ -12,7 +12,7 @@ use Rattle.std.specs.Fmt.{signed_decimal}
 use Rattle.std.proofs.lemmas.List.{ext_get_or, get_or-take, length-take-le, take_rest}
 use Rattle.std.proofs.lemmas.Bool.{cases_lt}
 use Rattle.std.proofs.lemmas.Bool.Decides.{nat_tests, Decides-eqb, Decides-int_eq}
-use Rattle.grid.specs.Vertices.{after_space, coordinates_of, spaced, vertex_answer, vertex_eq}
+use Rattle.grid.specs.Vertices.{after_space, coordinates_of, spaced, vertex_answer, VertexEqExact}
 use Rattle.grid.specs.declared.vertices.Vertex.{Vertex}
 
 abbrev Rest : ℕ → List ℤ → Type 0
@@ -63,7 +63,7 @@ pub vertex_taken : (xs : List ℤ) (d : ℕ) → length xs ≡ d → 2 ≤ d →
 vertex_taken xs d e h g = grind (arith, nat_tests)
 
 -- the test for equality says yes exactly for equal vertices
-pub vertex_eq_exact : (v w : Vertex) → Decides (vertex_eq v w) (v ≡ w)
+pub vertex_eq_exact : VertexEqExact
 vertex_eq_exact v w =
     let axes : Decides (eqb v.d w.d) (v.d ≡ w.d) = Decides-eqb v.d w.d in
     let places : Decides (pointwise int_eq v.at w.at) (v.at ≡ w.at) = slice_eq-Decides Decides-int_eq v.at w.at (pointwise int_eq v.at w.at) refl in (

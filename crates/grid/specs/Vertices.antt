@@ -1,5 +1,5 @@
 -- A vertex in plain values: the list of its coordinates.
-use Rattle.std.specs.Prelude.{ℕ, cond, ◌&&◌, Bool, List, [], ◌∷◌, ◌++◌, length, take, ℤ, Some, None, Option, nat_le, ◌==◌}
+use Rattle.std.specs.Prelude.{◌≡◌, ℕ, cond, ◌&&◌, Bool, List, [], ◌∷◌, ◌++◌, length, take, ℤ, Some, None, Option, Decides, nat_le, ◌==◌}
 use Rattle.std.specs.Ordering.{int_eq}
 use Rattle.std.specs.Cmp.Lexicographic.{pointwise}
 use Rattle.std.specs.List.{flat_map}
@@ -12,6 +12,10 @@ coordinates_of v = take v.d v.at
 -- the test for equality
 abbrev pub vertex_eq : Vertex → Vertex → Bool
 vertex_eq v w = v.d == w.d && pointwise int_eq v.at w.at
+
+-- it says yes exactly for equal vertices
+abbrev pub VertexEqExact : Type 0
+VertexEqExact = (v w : Vertex) → Decides (vertex_eq v w) (v ≡ w)
 
 -- 2 to 6 numbers make a vertex
 abbrev pub vertex_answer : List ℤ → Option (List ℤ)

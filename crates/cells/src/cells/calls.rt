@@ -6,6 +6,7 @@ ghost use Rattle.grid.specs.Refusals.{answered};
 ghost use Rattle.grid.specs.Vertices.{coordinates_of};
 ghost use Rattle.cells.specs.Cells.{cell_answer, is_cell, IsCell};
 ghost use Rattle.cells.specs.Laws.{CellLaws};
+ghost use Rattle.cells.specs.Records.{RecordEqExact};
 ghost use Rattle.cells.specs.Vertices.{padded_coordinate, vertex_answer, vertex_of};
 
 use super::Cell;
@@ -15,9 +16,11 @@ use grid::{Refusal, Vertex};
 
 impl Cell {
     // The cell of exactly this record.
+    #[tactic(auto, using(crate::proofs::Recorded::record_eq_exact))]
     pub fn new(plain: CellRecord) -> Result<Cell, Refusal>
         ensures answer { answered (λ c. c.plain) result ≡ cell_answer plain }
         ensures laws { MatchResult result (λ _. CellLaws plain) (λ _. IsCell plain → ⊥) }
+        ensures equality { RecordEqExact }
     {
         if !is_cell(&plain) {
             return Err(Refusal::NotACell);

@@ -1,7 +1,7 @@
 // Counting the splits of a cell, and finding one by its number.
 ghost use Rattle.std.specs.Prelude.{◌≡◌, ◌+◌, ◌-◌, ◌<◌, ◌≤◌, true, length, MatchOption};
 ghost use Rattle.cells.specs.Cells.{in_part, is_cell};
-ghost use Rattle.cells.specs.Splits.{holds as holdsPlace, split_at, split_by, splits, splits_of};
+ghost use Rattle.cells.specs.Splits.{holds as holds_place, split_at, split_by, splits, splits_of};
 ghost use Rattle.cells.specs.Spread.{spread};
 
 use super::Split;
@@ -10,7 +10,7 @@ use crate::records::CellRecord;
 // Whether the set with this code has place j.
 pub fn holds(code: u8, j: usize) -> bool
     requires { j < 7 }
-    ensures { result ≡ holdsPlace code j }
+    ensures { result ≡ holds_place code j }
 {
     (code >> j) % 2 == 1
 }

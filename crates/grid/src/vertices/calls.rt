@@ -3,15 +3,17 @@ ghost use Rattle.std.specs.Prelude.{◌≡◌, ◌≤◌, length, Decides};
 ghost use Rattle.std.specs.Option.{option_map};
 ghost use Rattle.std.specs.Cmp.{and_per, int_eq_equiv, nat_eq_equiv, on_per, partial_equiv_from_equiv};
 ghost use Rattle.std.specs.Cmp.Lexicographic.{lists_per};
-ghost use Rattle.grid.specs.Vertices.{coordinates_of, vertex_answer, vertex_eq};
+ghost use Rattle.grid.specs.Vertices.{coordinates_of, vertex_answer, vertex_eq, VertexEqExact};
 
 use super::Vertex;
 use crate::padding::padded;
 
 impl Vertex {
     // The vertex with these coordinates, of which there are 2 to 6.
+    #[tactic(auto, using(crate::proofs::Vertexes::vertex_eq_exact))]
     pub fn new(numbers: &[i32]) -> Option<Vertex>
-        ensures { option_map coordinates_of result ≡ vertex_answer numbers.now }
+        ensures answer { option_map coordinates_of result ≡ vertex_answer numbers.now }
+        ensures equality { VertexEqExact }
     {
         if numbers.len() < 2 || numbers.len() > 6 {
             return None;
@@ -47,7 +49,8 @@ impl PartialEq for Vertex {
 }
 
 fn are_same(v: &Vertex, w: &Vertex) -> bool
-    ensures { Decides result (v.now ≡ w.now) }
+    ensures tells { result ≡ vertex_eq v.now w.now }
+    ensures exact { Decides result (v.now ≡ w.now) }
 {
     if v.d != w.d {
         return false;

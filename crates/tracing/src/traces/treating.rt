@@ -6,7 +6,7 @@ ghost use Rattle.grid.specs.Lists.{holds};
 ghost use Rattle.grid.specs.Refusals.{answered};
 ghost use Rattle.cells.specs.Pairs.{pair_count};
 ghost use Rattle.tracing.specs.Sameness.{same_record};
-ghost use Rattle.tracing.specs.Steps.{followed, leads_to, record_at, treat as treatOf};
+ghost use Rattle.tracing.specs.Steps.{followed, leads_to, record_at, treat as treat_of};
 ghost use Rattle.tracing.specs.Traces.{onward, trace_numbers};
 ghost use Rattle.tracing.specs.Turns.{cell_with_pair, onward_turn, SamePair, turn_of, Unchanged};
 
@@ -24,7 +24,7 @@ pub(crate) fn treat<F: Field>(
     list: &mut [CellRecord],
 ) -> Result<(), Refusal>
     requires { (trace.old.next < trace.old.count) × (trace.old.count ≤ length list.old) }
-    ensures turn { turn_of trace.new list.new result ≡ treatOf (F.Field.meaning field.now) (trace_numbers trace.old) list.old }
+    ensures turn { turn_of trace.new list.new result ≡ treat_of (F.Field.meaning field.now) (trace_numbers trace.old) list.old }
     ensures unchanged { Unchanged result trace.old trace.new list.old list.new }
     ensures room { trace.new.count ≤ length list.new }
 {

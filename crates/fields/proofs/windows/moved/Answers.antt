@@ -25,7 +25,7 @@ pub returns : goal.returns
 returns c =
     let at = c.coordinates-at.result.now in
     let cs = c.args.corner.now in
-    c.new.ensures
+    c.new.ensures.answer
     ∙ ap (λ n. vertex_answer (take n c.plus_corner-sums.result)) (sub-zero (length at))
     ∙ ap vertex_answer c.plus_corner-sums.ensures
     ∙ ap (λ v. vertex_answer (plus_corner v cs)) c.coordinates-at.ensures
