@@ -27,7 +27,8 @@ fn is_partition(r: &CellRecord) -> bool
 }
 
 fn is_label(r: &CellRecord, j: usize) -> bool
-    requires { (j < 7) × (r.now.l ≤ 6) }
+    requires place { j < 7 }
+    requires parts { r.now.l ≤ 6 }
     ensures { result ≡ label_ok r.now j }
 {
     let label = r.labels[j];
@@ -63,7 +64,8 @@ fn is_part_full(r: &CellRecord, p: u8) -> bool
 }
 
 fn are_parts_full(r: &CellRecord) -> bool
-    requires { (r.now.d ≤ 6) × (r.now.l ≤ 6) }
+    requires axes { r.now.d ≤ 6 }
+    requires parts { r.now.l ≤ 6 }
     ensures { result ≡ all_below (next_part_full r.now) (r.now.l + 1) }
 {
     for p in 0..r.l + 1 {
@@ -76,7 +78,8 @@ fn are_parts_full(r: &CellRecord) -> bool
 
 // Whether all vertices lie in the world.
 pub fn is_placed(r: &CellRecord) -> bool
-    requires { (is_partition r.now ≡ true) × (length r.now.base ≡ 6) }
+    requires partition { is_partition r.now ≡ true }
+    requires long { length r.now.base ≡ 6 }
     ensures { result ≡ is_placed r.now }
 {
     are_axes_ok(r)
@@ -107,7 +110,8 @@ fn is_axis_ok(r: &CellRecord, a: usize) -> bool
 
 // Coordinate a of vertex i: one above the base once the part of its axis is passed.
 pub fn coordinate(r: &CellRecord, i: u8, a: usize) -> i32
-    requires { (a < 6) × (in_world (base_at r.now a) ≡ true) }
+    requires axis { a < 6 }
+    requires world { in_world (base_at r.now a) ≡ true }
     ensures { result ≡ closed_coordinate r.now i a }
 {
     if r.labels[a] <= i {

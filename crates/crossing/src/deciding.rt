@@ -23,7 +23,9 @@ pub fn class_of(k: u8, values: &[i16]) -> Option<Class>
 }
 
 fn class_by_vertex(k: u8, values: &[i16]) -> Class
-    requires { (1 ≤ k) × ((k ≤ 3) × (length values.now ≡ k * (k + 1))) }
+    requires k_low { 1 ≤ k }
+    requires k_high { k ≤ 3 }
+    requires shaped { length values.now ≡ k * (k + 1) }
     ensures is { result ≡ class_of k (by_vertex k values.now) }
     ensures weights { Given k (by_vertex k values.now) result }
 {
@@ -31,7 +33,8 @@ fn class_by_vertex(k: u8, values: &[i16]) -> Class
 }
 
 pub(crate) fn decided(k: u8, at: &[[i16; 3]; 4]) -> Class
-    requires { (1 ≤ k) × (k ≤ 3) }
+    requires k_low { 1 ≤ k }
+    requires k_high { k ≤ 3 }
     ensures is { result ≡ class_of k at.now }
     ensures laws { ClassLaws }
 {

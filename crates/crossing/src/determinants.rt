@@ -5,7 +5,8 @@ ghost use Rattle.crossing.specs.Weights.{value};
 
 // Entry i, for i from 0 to k, is the determinant without vertex i, with alternating sign.
 pub(crate) fn signed_determinants(k: u8, at: &[[i16; 3]; 4]) -> [i64; 4]
-    requires { (1 ≤ k) × (k ≤ 3) }
+    requires k_low { 1 ≤ k }
+    requires k_high { k ≤ 3 }
     ensures { (i : ℕ) → i ≤ k → slice_index_or result i (pos 0) ≡ signed_determinant k (value at.now) i }
 {
     let mut signed = [0; 4];
@@ -24,7 +25,9 @@ fn alternated(i: usize, x: i64) -> i64
 
 // The determinant of the k rows at all vertices but vertex i.
 fn without(k: u8, at: &[[i16; 3]; 4], i: usize) -> i64
-    requires { (1 ≤ k) × ((k ≤ 3) × (i < 4)) }
+    requires k_low { 1 ≤ k }
+    requires k_high { k ≤ 3 }
+    requires vertex { i < 4 }
     ensures is { result ≡ determinant_of k (λ j. value at.now (passing_of i j)) }
     ensures small { unsigned_abs result ≤ 2 ^ 48 }
 {
@@ -46,7 +49,8 @@ fn passing(i: usize, j: usize) -> usize
 
 // The determinant of rows r and s at two vertices.
 fn minor(a: [i16; 3], b: [i16; 3], r: usize, s: usize) -> i64
-    requires { (r < 3) × (s < 3) }
+    requires first { r < 3 }
+    requires second { s < 3 }
     ensures is { result ≡ minor_of (value (a ∷ b ∷ [])) 0 1 r s }
     ensures small { unsigned_abs result ≤ 2 ^ 31 }
 {

@@ -5,7 +5,8 @@ ghost use Rattle.crossing.specs.Weights.{Agree};
 
 // The k numbers from a position on.
 pub(crate) fn row_from(values: &[i16], first: usize, k: usize) -> [i16; 3]
-    requires { (k ≤ 3) × (first + k ≤ length values.now) }
+    requires k_high { k ≤ 3 }
+    requires within { first + k ≤ length values.now }
     ensures { (r : ℕ) → r < k → slice_index_or result r (pos 0) ≡ slice_index_or values.now (first + r) (pos 0) }
 {
     let mut row = [0; 3];
@@ -17,7 +18,8 @@ pub(crate) fn row_from(values: &[i16], first: usize, k: usize) -> [i16; 3]
 
 // Numbers that are written vertex by vertex, k at each.
 pub(crate) fn arranged(values: &[i16], k: usize) -> [[i16; 3]; 4]
-    requires { (k ≤ 3) × (length values.now ≡ k * (k + 1)) }
+    requires k_high { k ≤ 3 }
+    requires shaped { length values.now ≡ k * (k + 1) }
     ensures { Agree k result (by_vertex k values.now) }
 {
     let mut at = [[0; 3]; 4];

@@ -54,7 +54,8 @@ fn values_at<F: Field>(field: &F, cell: &Cell) -> Result<[[i16; 3]; 4], Fault>
 
 // The values at vertex i of a cell that fits.
 fn row_at<F: Field>(field: &F, cell: &Cell, i: u32) -> Result<[i16; 3], Fault>
-    requires { (fits_frame (F.Field.meaning field.now).frame cell.now.plain ≡ true) × (i ≤ cell.now.plain.l) }
+    requires fits { fits_frame (F.Field.meaning field.now).frame cell.now.plain ≡ true }
+    requires vertex { i ≤ cell.now.plain.l }
     ensures { MatchResult result (λ row. RowIn cell.now.plain.l (outcome_at (F.Field.meaning field.now) cell.now.plain i) row) (λ f. outcome_at (F.Field.meaning field.now) cell.now.plain i ≡ fault_with (fault_numbers f)) }
 {
     let Some(vertex) = cell.vertex(i) else {

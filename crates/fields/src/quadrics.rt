@@ -75,7 +75,9 @@ fn evaluated(rows: &[Row; 3], frame: &Frame, vertex: &Vertex) -> Option<Values>
 }
 
 fn rows_at(rows: &[Row; 3], k: u8, at: &[i32]) -> [i64; 3]
-    requires { (k ≤ 3) × ((length at.now ≤ 6) × (((j : ℕ) → j < length at.now → on_axis 1000 (slice_index_or at.now j (pos 0)) ≡ true))) }
+    requires k_high { k ≤ 3 }
+    requires axes { length at.now ≤ 6 }
+    requires on_axes { (j : ℕ) → j < length at.now → on_axis 1000 (slice_index_or at.now j (pos 0)) ≡ true }
     ensures { take k result ≡ rows_at k rows.now at.now }
 {
     let mut sums = [0; 3];
@@ -86,7 +88,8 @@ fn rows_at(rows: &[Row; 3], k: u8, at: &[i32]) -> [i64; 3]
 }
 
 fn row_at(row: &Row, at: &[i32]) -> i64
-    requires { (length at.now ≤ 6) × (((j : ℕ) → j < length at.now → on_axis 1000 (slice_index_or at.now j (pos 0)) ≡ true)) }
+    requires axes { length at.now ≤ 6 }
+    requires on_axes { (j : ℕ) → j < length at.now → on_axis 1000 (slice_index_or at.now j (pos 0)) ≡ true }
     ensures { result ≡ row_at at.now row.now }
 {
     let mut sum = row.constant as i64;

@@ -55,7 +55,9 @@ impl<'a> Field for Table<'a> {
 
 // The k samples of vertex number m, if all are there and on the scale.
 fn sampled(samples: &[i16], k: u8, m: u64) -> Option<Values>
-    requires { (1 ≤ k) × ((k ≤ 3) × (m < 2 ^ 60)) }
+    requires k_low { 1 ≤ k }
+    requires k_high { k ≤ 3 }
+    requires place { m < 2 ^ 60 }
     ensures { option_map rows_of result ≡ sampled_rows k m samples.now }
 {
     let first = k as usize * m as usize;
@@ -68,7 +70,8 @@ fn sampled(samples: &[i16], k: u8, m: u64) -> Option<Values>
 
 // The k samples from a position on.
 fn samples_from(samples: &[i16], first: usize, k: u8) -> [i64; 3]
-    requires { (k ≤ 3) × (first + k ≤ length samples.now) }
+    requires k_high { k ≤ 3 }
+    requires within { first + k ≤ length samples.now }
     ensures { take k result ≡ samples_from first k samples.now }
 {
     let mut rows = [0; 3];

@@ -63,7 +63,8 @@ fn moved(frame: &Frame, vertex: &Vertex, corner: &[u16; 6]) -> Option<Vertex>
 }
 
 fn plus_corner(at: &[i32], corner: &[u16; 6]) -> [i32; 6]
-    requires { (length at.now ≤ 6) × (((j : ℕ) → j < length at.now → on_axis 1000 (slice_index_or at.now j (pos 0)) ≡ true)) }
+    requires axes { length at.now ≤ 6 }
+    requires on_axes { (j : ℕ) → j < length at.now → on_axis 1000 (slice_index_or at.now j (pos 0)) ≡ true }
     ensures { take (length at.now) result ≡ plus_corner at.now corner.now }
 {
     let mut sums = [0; 6];

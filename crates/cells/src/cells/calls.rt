@@ -90,7 +90,8 @@ pub(crate) fn coordinates(cell: &Cell, i: u8) -> [i32; 6]
 }
 
 fn coordinate_or_0(cell: &Cell, i: u8, a: usize) -> i32
-    requires { (i ≤ cell.now.plain.l) × (a < 6) }
+    requires vertex { i ≤ cell.now.plain.l }
+    requires axis { a < 6 }
     ensures { result ≡ padded_coordinate cell.now.plain i a }
 {
     if a < cell.plain.d as usize {

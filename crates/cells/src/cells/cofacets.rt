@@ -71,7 +71,8 @@ fn lowered(x: i32, down: bool) -> i32
 
 // Whether A has the number d + 1 and B the one at place j.
 fn goes_down(r: &CellRecord, split: Split, j: usize) -> bool
-    requires { (j < 7) × (r.now.d ≤ 6) }
+    requires place { j < 7 }
+    requires axes { r.now.d ≤ 6 }
     ensures { result ≡ (turns r.now split.code && in_b r.now split.part split.code j) }
 {
     holds(split.code, r.d as usize) && r.labels[j] == split.part && !holds(split.code, j)
@@ -88,7 +89,9 @@ fn cofacet_labels(cell: &Cell, split: Split) -> [u8; 7]
 }
 
 fn cofacet_label(r: &CellRecord, split: Split, j: usize) -> u8
-    requires { (j < 7) × ((r.now.d ≤ 6) × (label r.now j ≤ 7)) }
+    requires place { j < 7 }
+    requires axes { r.now.d ≤ 6 }
+    requires part { label r.now j ≤ 7 }
     ensures { result ≡ cofacet_label r.now split.part split.code j }
 {
     let is_a = holds(split.code, j);

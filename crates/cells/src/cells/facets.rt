@@ -24,7 +24,8 @@ impl Cell {
 }
 
 fn without_vertex(cell: &Cell, i: u8) -> Cell
-    requires { (1 ≤ cell.now.plain.l) × (i ≤ cell.now.plain.l) }
+    requires some { 1 ≤ cell.now.plain.l }
+    requires vertex { i ≤ cell.now.plain.l }
     ensures same { result.plain ≡ facet_of cell.now.plain i }
     ensures laws { FacetLaws cell.now.plain i result.plain }
 {

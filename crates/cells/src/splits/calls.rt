@@ -17,7 +17,9 @@ pub fn holds(code: u8, j: usize) -> bool
 
 // How many splits part p has.
 fn count_of_part(r: &CellRecord, p: u8) -> u32
-    requires { (is_cell r.now ≡ true) × ((1 ≤ p) × (p ≤ r.now.l + 1)) }
+    requires cell { is_cell r.now ≡ true }
+    requires part_low { 1 ≤ p }
+    requires part_high { p ≤ r.now.l + 1 }
     ensures { result ≡ length (splits_of r.now p) }
 {
     let mut sets = 1;

@@ -45,7 +45,9 @@ fn are_on_scale(rows: &[i64]) -> bool
 }
 
 fn kept(rows: &[i64]) -> Values
-    requires { (1 ≤ length rows.now) × ((length rows.now ≤ 3) × (all_on_scale rows.now ≡ true)) }
+    requires some { 1 ≤ length rows.now }
+    requires few { length rows.now ≤ 3 }
+    requires on_scale { all_on_scale rows.now ≡ true }
     ensures { rows_of result ≡ rows.now }
 {
     let mut narrow = [0; 3];

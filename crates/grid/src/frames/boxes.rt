@@ -61,7 +61,8 @@ fn place_of(frame: &Frame, vertex: &Vertex) -> u64
 
 // The number of a vertex along the axes from one on, from its number along those after it.
 fn stacked(side: u16, x: i32, after: u64) -> u64
-    requires { (side ≤ 1000) × (after < 1001 ^ 5) }
+    requires side_high { side ≤ 1000 }
+    requires after_below { after < 1001 ^ 5 }
     ensures { result ≡ unsigned_abs x + (side + 1) * after }
 {
     u64::from(x.unsigned_abs()) + (u64::from(side) + 1) * after

@@ -59,7 +59,8 @@ fn are_same(v: &Vertex, w: &Vertex) -> bool
 }
 
 fn kept(numbers: &[i32]) -> Vertex
-    requires { (2 ≤ length numbers.now) × (length numbers.now ≤ 6) }
+    requires low { 2 ≤ length numbers.now }
+    requires high { length numbers.now ≤ 6 }
     ensures { coordinates_of result ≡ numbers.now }
 {
     Vertex {

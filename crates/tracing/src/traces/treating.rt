@@ -23,7 +23,8 @@ pub(crate) fn treat<F: Field>(
     field: &F,
     list: &mut [CellRecord],
 ) -> Result<(), Refusal>
-    requires { (trace.old.next < trace.old.count) × (trace.old.count ≤ length list.old) }
+    requires ahead { trace.old.next < trace.old.count }
+    requires listed { trace.old.count ≤ length list.old }
     ensures turn { turn_of trace.new list.new result ≡ treat_of (F.Field.meaning field.now) (trace_numbers trace.old) list.old }
     ensures unchanged { Unchanged result trace.old trace.new list.old list.new }
     ensures room { trace.new.count ≤ length list.new }
@@ -112,7 +113,9 @@ fn is_known(listed: &Listed<CellRecord>, cell: &Cell, facet: &Cell) -> bool
 
 // One pair on, of a cell with so many pairs.
 fn advance(trace: &mut Trace, pairs: u32)
-    requires { (trace.old.next < trace.old.count) × ((trace.old.pair < pairs) × (pairs ≤ 7056)) }
+    requires ahead { trace.old.next < trace.old.count }
+    requires pair_below { trace.old.pair < pairs }
+    requires pairs_few { pairs ≤ 7056 }
     ensures { trace_numbers trace.new ≡ onward pairs (trace_numbers trace.old) }
 {
     trace.steps += 1;

@@ -8,5 +8,5 @@ pub returns : goal.returns
 returns c =
     let k = c.args.k in
     let v = by_vertex c.args.k c.args.values.now in
-    let is : c.decided.result ≡ class_of c.args.k (by_vertex c.args.k c.args.values.now) = c.decided.ensures.is ∙ class_same k c.arranged.result v c.requires.0 c.requires.1.0 c.arranged.ensures in
-    record { is = is; weights = subst (Given k v) (sym is) (given k v c.requires.0 c.requires.1.0) }
+    let is : c.decided.result ≡ class_of c.args.k (by_vertex c.args.k c.args.values.now) = c.decided.ensures.is ∙ class_same k c.arranged.result v c.requires.k_low c.requires.k_high c.arranged.ensures in
+    record { is = is; weights = subst (Given k v) (sym is) (given k v c.requires.k_low c.requires.k_high) }

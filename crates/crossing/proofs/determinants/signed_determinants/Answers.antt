@@ -9,7 +9,7 @@ loop-i-init c = filled_none refl
 
 pub loop-i-preserved : goal.loop-i-preserved
 loop-i-preserved c =
-    filled_more_signed w64 (omega (arith, c.requires.1)) (search rules)
+    filled_more_signed w64 (omega (arith, c.requires.k_high)) (search rules)
     (c.alternated.ensures ∙ ap (alternating c.loop-i.i) (to_z-of_z w64 c.without.result (search rules) ∙ c.without.ensures.is)) c.loop-i.invariant
 
 pub returns : goal.returns

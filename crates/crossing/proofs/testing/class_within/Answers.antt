@@ -9,7 +9,7 @@ use Rattle.crossing.proofs.testing.class_within.Goals as goal
 pub decided-requires : goal.decided-requires
 decided-requires g c =
     let range = rows_range (g.F.Field.meaning c.args.field.now) c.args.cell.now.plain (g.F.Field.good c.args.field.now) c.requires in
-    (omega (arith, range.0, c.dimension.ensures.value), omega (arith, range.1, c.dimension.ensures.value))
+    record { k_low = omega (arith, range.0, c.dimension.ensures.value); k_high = omega (arith, range.1, c.dimension.ensures.value) }
 
 pub returns : goal.returns
 returns g c =

@@ -8,4 +8,5 @@ rows_at-sums-requires c =
     let f = c.args.frame.now in
     let k = c.k-k.ensures in
     let high = f.k_high in
-    (omega arith, rw c.coordinates.ensures (box_short f (coordinates_of c.args.vertex.now) c.requires))
+    let b = box_short f (coordinates_of c.args.vertex.now) c.requires in
+    record { k_high = omega arith; axes = rw c.coordinates.ensures b.0; on_axes = rw c.coordinates.ensures b.1 }

@@ -38,7 +38,7 @@ loop-j-init c = started c.args.row.now.constant _ (search rules)
 pub axis_part-sum-requires : goal.axis_part-sum-requires
 axis_part-sum-requires c =
     let x = get_or c.args.at.now c.loop-j.j (pos 0) in
-    rw (to_z-of_z w32 x (search rules)) (c.requires.1 c.loop-j.j c.loop-j-test.true)
+    rw (to_z-of_z w32 x (search rules)) (c.requires.on_axes c.loop-j.j c.loop-j-test.true)
 
 step : (c : goal.After-axis_part-sum) → Added c.args.row.now.constant c.loop-j.sum c.axis_part-sum.result (part_at c.args.row.now c.args.at.now) c.loop-j.j
 step c =
@@ -47,7 +47,7 @@ step c =
     let a : SFits w16 (get_or c.args.row.now.linear c.loop-j.j (pos 0)) = search rules in
     let b : SFits w16 (get_or c.args.row.now.square c.loop-j.j (pos 0)) = search rules in
     let x : SFits w32 (get_or c.args.at.now c.loop-j.j (pos 0)) = search rules in
-    added row.constant c.loop-j.sum c.axis_part-sum.result (part_at row c.args.at.now) j (omega (arith, c.requires.0)) (rw c.loop-j.sum-is at c.loop-j.invariant.0) (rw c.loop-j.sum-is at c.loop-j.invariant.1) (simp to_z-of_z at c.axis_part-sum.ensures.is) c.axis_part-sum.ensures.small
+    added row.constant c.loop-j.sum c.axis_part-sum.result (part_at row c.args.at.now) j (omega (arith, c.requires.axes)) (rw c.loop-j.sum-is at c.loop-j.invariant.0) (rw c.loop-j.sum-is at c.loop-j.invariant.1) (simp to_z-of_z at c.axis_part-sum.ensures.is) c.axis_part-sum.ensures.small
 
 pub overflow_add-sum : goal.overflow_add-sum
 overflow_add-sum c = rw c.loop-j.sum-is (step c).fits

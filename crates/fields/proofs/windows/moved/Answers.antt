@@ -19,7 +19,9 @@ sum_taken f v cs h =
     ∙ sym (cond-true (in_box (sides_of f) v) (Some (plus_corner v cs)) None h)
 
 pub plus_corner-sums-requires : goal.plus_corner-sums-requires
-plus_corner-sums-requires c = rw c.coordinates-at.ensures (box_short c.args.frame.now (coordinates_of c.args.vertex.now) (sym c.if-not-contains.ensures))
+plus_corner-sums-requires c =
+    let b = box_short c.args.frame.now (coordinates_of c.args.vertex.now) (sym c.if-not-contains.ensures) in
+    record { axes = rw c.coordinates-at.ensures b.0; on_axes = rw c.coordinates-at.ensures b.1 }
 
 pub returns : goal.returns
 returns c =

@@ -20,7 +20,10 @@ pub is_placed-requires : goal.is_placed-requires
 is_placed-requires c =
     let r = c.args.self.now.plain in
     let e = sym (cofacet_made r c.cofacet_record-plain.result c.in-Some.split c.args.c c.cofacet_record-plain.ensures c.in-Some.ensures.1) in
-    (subst (λ (x : CellRecord). is_partition x ≡ true) e (cofacet_parts r (is_cell_lem r c.args.self.now.ok) c.args.c c.in-Some.ensures.0), subst (λ (x : CellRecord). length x.base ≡ 6) e (cofacet_long r c.args.c))
+    record {
+      partition = subst (λ (x : CellRecord). is_partition x ≡ true) e (cofacet_parts r (is_cell_lem r c.args.self.now.ok) c.args.c c.in-Some.ensures.0);
+      long = subst (λ (x : CellRecord). length x.base ≡ 6) e (cofacet_long r c.args.c);
+    }
 
 pub returns-then-not-is_placed : goal.returns-then-not-is_placed
 returns-then-not-is_placed c =

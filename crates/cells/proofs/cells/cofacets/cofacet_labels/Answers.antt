@@ -8,7 +8,7 @@ pub cofacet_label-requires : goal.cofacet_label-requires
 cofacet_label-requires c =
     let r = c.args.cell.now.plain in
     let x = label_le r (is_cell_lem r c.args.cell.now.ok) c.loop-j.j in
-    (omega arith, (omega arith, omega arith))
+    record { place = omega arith; axes = omega arith; part = omega arith }
 
 pub loop-j-init : goal.loop-j-init
 loop-j-init c = filled_none refl

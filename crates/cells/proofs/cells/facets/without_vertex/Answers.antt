@@ -12,7 +12,7 @@ use Rattle.cells.proofs.Relating.{facet_laws}
 use Rattle.cells.proofs.cells.facets.without_vertex.Goals as goal
 
 pub coordinates-requires : goal.coordinates-requires
-coordinates-requires c = let e = c.first_kept.ensures in let h = c.requires.0 in grind (arith, nat_tests)
+coordinates-requires c = let e = c.first_kept.ensures in let h = c.requires.some in grind (arith, nat_tests)
 
 -- the record that is made is the facet's
 facet_made : (r : CellRecord) (i first : ℕ) (base : List ℤ) (labels : List ℕ) → first ≡ cond (eqb i 0) 1 0 → base ≡ table 6 (padded_coordinate r first) → labels ≡ table 7 (facet_label r i) → ◌≡◌ {A = CellRecord} (record { d = r.d; l = r.l - 1; base = base; labels = labels }) (facet_of r i)
@@ -24,11 +24,11 @@ pub made-requires : goal.made-requires
 made-requires c =
     let r : CellRecord = c.args.cell.now.plain in
     let i = is_cell_lem r c.args.cell.now.ok in
-    subst (λ (x : CellRecord). is_cell x ≡ true) (sym (facet_made r c.args.i c.first_kept.result c.coordinates.result c.facet_labels.result c.first_kept.ensures c.coordinates.ensures c.facet_labels.ensures)) (cell_is (facet_of r c.args.i) (facet_is_cell r i c.requires.0 c.args.i c.requires.1))
+    subst (λ (x : CellRecord). is_cell x ≡ true) (sym (facet_made r c.args.i c.first_kept.result c.coordinates.result c.facet_labels.result c.first_kept.ensures c.coordinates.ensures c.facet_labels.ensures)) (cell_is (facet_of r c.args.i) (facet_is_cell r i c.requires.some c.args.i c.requires.vertex))
 
 pub returns : goal.returns
 returns c =
     let r : CellRecord = c.args.cell.now.plain in
     let i = is_cell_lem r c.args.cell.now.ok in
     let same = c.made.ensures.same ∙ facet_made r c.args.i c.first_kept.result c.coordinates.result c.facet_labels.result c.first_kept.ensures c.coordinates.ensures c.facet_labels.ensures in
-    record { same = same; laws = subst (FacetLaws r c.args.i) (sym same) (facet_laws r i c.requires.0 c.args.i c.requires.1) }
+    record { same = same; laws = subst (FacetLaws r c.args.i) (sym same) (facet_laws r i c.requires.some c.args.i c.requires.vertex) }

@@ -20,7 +20,7 @@ loop-j-preserved c = let e = power_more (in_part c.args.r.now c.args.p) c.loop-j
 
 pub proper_sets-requires : goal.proper_sets-requires
 proper_sets-requires c =
-    let h = power_two c.args.r.now (is_cell_lem _ c.requires.0) c.args.p c.requires.1.0 c.requires.1.1 in
+    let h = power_two c.args.r.now (is_cell_lem _ c.requires.cell) c.args.p c.requires.part_low c.requires.part_high in
     let e : c.loop-j.sets ≡ 2 ^ part_size c.args.r.now c.args.p = c.loop-j.invariant ∙ ap (λ j. 2 ^ length (chosen (in_part c.args.r.now c.args.p) j)) (omega arith) in
     omega arith
 

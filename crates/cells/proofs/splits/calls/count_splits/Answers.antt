@@ -12,7 +12,7 @@ pub loop-p-init : goal.loop-p-init
 loop-p-init c = sym (splits_none _)
 
 pub count_of_part-n-requires : goal.count_of_part-n-requires
-count_of_part-n-requires c = (c.requires, (omega arith, omega arith))
+count_of_part-n-requires c = record { cell = c.requires; part_low = omega arith; part_high = omega arith }
 
 pub overflow_add-n : goal.overflow_add-n
 overflow_add-n c =

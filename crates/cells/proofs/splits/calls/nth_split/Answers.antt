@@ -12,7 +12,7 @@ pub loop-p-init : goal.loop-p-init
 loop-p-init c = let e = splits_none c.args.r.now in omega arith
 
 pub count_of_part-n-requires : goal.count_of_part-n-requires
-count_of_part-n-requires c = (c.requires, (omega arith, omega arith))
+count_of_part-n-requires c = record { cell = c.requires; part_low = omega arith; part_high = omega arith }
 
 pub loop-p-preserved : goal.loop-p-preserved
 loop-p-preserved c = let e = length_part c.args.r.now c.loop-p.p (omega arith) in omega arith

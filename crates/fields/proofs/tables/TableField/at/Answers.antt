@@ -8,4 +8,4 @@ sampled-requires c =
     let k = c.k.ensures in
     let low = f.k_low in
     let high = f.k_high in
-    (omega arith, (omega arith, omega (arith, c.in-Some.ensures.below, count_small f)))
+    record { k_low = omega arith; k_high = omega arith; place = omega (arith, c.in-Some.ensures.below, count_small f) }

@@ -15,7 +15,7 @@ overflow_cast-narrow c =
     let xs = c.args.rows.now in
     let r = c.loop-r.r in
     let wide : SFits w64 (get_or xs r (pos 0)) = search rules in
-    rw (to_z-of_z w64 (get_or xs r (pos 0)) wide) (row_fits xs r c.requires.1.1 c.loop-r-test.true)
+    rw (to_z-of_z w64 (get_or xs r (pos 0)) wide) (row_fits xs r c.requires.on_scale c.loop-r-test.true)
 
 pub loop-r-init : goal.loop-r-init
 loop-r-init c = filled_none refl
@@ -25,12 +25,12 @@ loop-r-preserved c =
     let xs = c.args.rows.now in
     let r = c.loop-r.r in
     let wide : SFits w64 (get_or xs r (pos 0)) = search rules in
-    filled_more_signed w16 (omega (arith, c.requires.1.0)) (overflow_cast-narrow c) (to_z-of_z w64 (get_or xs r (pos 0)) wide) c.loop-r.invariant
+    filled_more_signed w16 (omega (arith, c.requires.few)) (overflow_cast-narrow c) (to_z-of_z w64 (get_or xs r (pos 0)) wide) c.loop-r.invariant
 
 pub invariant_of-result : goal.invariant_of-result
 invariant_of-result c =
     let xs = c.args.rows.now in
-    let e = copied xs c.loop-r.narrow c.loop-r.r c.requires.1.0 c.loop-r-test.false c.loop-r.invariant in record { k_low = c.requires.0; k_high = c.requires.1.0; long = c.loop-r.invariant.long; on_scale = ap all_on_scale e ∙ c.requires.1.1 }
+    let e = copied xs c.loop-r.narrow c.loop-r.r c.requires.few c.loop-r-test.false c.loop-r.invariant in record { k_low = c.requires.some; k_high = c.requires.few; long = c.loop-r.invariant.long; on_scale = ap all_on_scale e ∙ c.requires.on_scale }
 
 pub returns : goal.returns
-returns c = copied c.args.rows.now c.loop-r.narrow c.loop-r.r c.requires.1.0 c.loop-r-test.false c.loop-r.invariant
+returns c = copied c.args.rows.now c.loop-r.narrow c.loop-r.r c.requires.few c.loop-r-test.false c.loop-r.invariant

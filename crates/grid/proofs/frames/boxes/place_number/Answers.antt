@@ -8,7 +8,7 @@ pub stacked-number-requires : goal.stacked-number-requires
 stacked-number-requires c =
     let n = length c.args.sides.now in
     let b = bound_most (n - c.loop-j.j) 5 (omega arith) in
-    (c.requires.short (c.loop-j.j - 1) (omega arith), omega (arith, c.loop-j.invariant.1, b))
+    record { side_high = c.requires.short (c.loop-j.j - 1) (omega arith); after_below = omega (arith, c.loop-j.invariant.1, b) }
 
 pub loop-j-init : goal.loop-j-init
 loop-j-init c =

@@ -14,7 +14,7 @@ advance-requires g c =
     let below = pair_below m (trace_numbers c.args.trace.now) c.args.list.now cell.plain (frame_numbers c.frame-frame.result) c.frame-frame.ensures c.in_ok-cell.ensures in
     let few = pairs_few cell.plain cell.ok in
     let n = c.pairs.ensures in
-    (c.requires.0, (omega arith, omega arith))
+    record { ahead = c.requires.ahead; pair_below = omega arith; pairs_few = omega arith }
 
 pub returns-in_err-take_up : goal.returns-in_err-take_up
 returns-in_err-take_up g c =
@@ -32,5 +32,5 @@ advance-requires-2 g c =
     let few = pairs_few cell.plain cell.ok in
     let n = c.pairs-2.ensures in
     let kept = c.take_up.ensures.kept in
-    let p = c.requires.0 in
-    (omega arith, (omega arith, omega arith))
+    let p = c.requires.ahead in
+    record { ahead = omega arith; pair_below = omega arith; pairs_few = omega arith }
