@@ -4,9 +4,13 @@
 usage: python3 tools/respell.py            at the top of the repository: rewrites crates/*/{src,specs,proofs} in place
        python3 tools/respell.py --look     writes nothing: only says where two names would fall together
 
-A line of respell.txt is OLD NEW KIND. A 'def' is respelled wherever it stands as a word of its own, but not behind a dot; a 'field' also
-behind a dot. Words are in snake case; a dash stays only between the names of two definitions. Strings and comments keep their text,
-but for words in camel case, which are names wherever they stand.
+It is for one run, on the tree that the toolchain's own script has turned (docs/PORT.md), and has had it. A second run would take some
+new names for old ones.
+
+A line of respell.txt is OLD NEW KIND. A 'def' is respelled wherever it stands as a word of its own, and behind a dot only in the path of a
+module; a 'field' also behind any other dot. A file that answers a goal of some name keeps that name. Words are in snake case; a dash stays
+only between the names of two definitions. Strings and comments keep their text, but for words in camel case, which are names wherever
+they stand.
 """
 
 import collections
@@ -44,7 +48,7 @@ def pieces(line, mark):
     return (line, "") if at < 0 else (line[:at], line[at:])
 
 
-def respelled(line, mark, defs, fields, is_record_field, own_goal, seen):
+def respelled(line, mark, defs, fields, is_record_field, seen):
     code, comment = pieces(line, mark)
 
     def code_word(m):
@@ -93,7 +97,7 @@ def main(look):
             elif line.strip() and record is not None and indent <= record:
                 record = None
             in_record = record is not None and indent > record and re.match(r"\s*(pub )?\S+\s*:", line) is not None
-            lines.append(respelled(line, mark, here, fields, in_record, goals, seen))
+            lines.append(respelled(line, mark, here, fields, in_record, seen))
         for new, olds in seen.items():
             if len(olds) > 1:
                 print(f"fall together in {path}: {' '.join(sorted(olds))} -> {new}")

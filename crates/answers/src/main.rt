@@ -1,5 +1,5 @@
-// Answers calls on frames, cells and fields, one a line, as standard input brings them. What it is run on, and what it must answer,
-// came from another implementation.
+// Answers calls on frames, cells, fields and classes, one a line, as standard input brings them. What it is run on, and what it
+// must answer, came from another implementation.
 #![tactic(auto)]
 
 mod asks;
