@@ -11,7 +11,7 @@ use Rattle.crossing.specs.Crossing.{test_answer}
 use Rattle.crossing.specs.declared.classes.Class.{Class}
 use Rattle.crossing.specs.declared.classes.Class.TheVariants.{Crossed, Clear, Degenerate}
 use Rattle.tracing.specs.Law.{Joined, StepsJoin}
-use Rattle.tracing.specs.Sameness.{same_record}
+use Rattle.cells.specs.Records.{record_eq}
 use Rattle.tracing.specs.Search.{usable}
 use Rattle.tracing.specs.Steps.{appended, finished, fitted, followed, going, halted, judged, leads_to, moved, no_cell, numbered, passed, refused, run, spent, step_answer, Stepped, stopped, treat, tried, Turn, turned}
 use Rattle.tracing.specs.Traces.{longer, TraceNumbers}
@@ -53,7 +53,7 @@ module _ (m : Meaning) where
 
     roomy_followed : (c : CellRecord) (o : Option CellRecord) → Roomy (followed m o c t xs)
     roomy_followed c None = roomy_passed c
-    roomy_followed c (Some b) = roomy_tried c b (same_record b c || holds same_record (take t.count xs) b)
+    roomy_followed c (Some b) = roomy_tried c b (record_eq b c || holds record_eq (take t.count xs) b)
 
     roomy_numbered : (c : CellRecord) (k : Bool) → Roomy (numbered m k c t xs)
     roomy_numbered c true = roomy_followed c (leads_to (sides_in m) c t.pair)

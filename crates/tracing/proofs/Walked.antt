@@ -14,12 +14,12 @@ use Rattle.crossing.specs.declared.classes.Class.TheVariants.{Crossed, Clear, De
 use Rattle.walk.specs.Grounds.{Ground}
 use Rattle.walk.specs.Walks as walk
 use Rattle.walk.proofs.Members.{holds_is, in_right}
-use Rattle.tracing.specs.Sameness.{same_record}
+use Rattle.cells.specs.Records.{record_eq}
 use Rattle.tracing.specs.Search.{usable}
 use Rattle.tracing.specs.Steps.{appended, fitted, followed, going, judged, leads_to, moved, no_cell, numbered, passed, run, Stepped, stopped, treat, tried, Turn, turned}
 use Rattle.tracing.specs.Traces.{further, longer, TraceNumbers}
 use Rattle.tracing.proofs.Grounded.{ground_of, says_crossed}
-use Rattle.tracing.specs.Exact.{record_exact}
+use Rattle.cells.proofs.Recorded.{record_eq_exact}
 
 abbrev pub state_of : TraceNumbers → List CellRecord → walk.State CellRecord
 state_of t cells = record { done = take t.next cells; todo = drop t.next cells; pair = t.pair; steps = t.steps }
@@ -113,22 +113,22 @@ module _ (m : Meaning) (from : walk.State CellRecord) where
           goes_judged (Ok Degenerate) e = tt
           goes_judged (Err f) e = tt
 
-        is_listed : (same_record b c || holds same_record (take t.count xs) b) ≡ true → In b (walk.listed here)
-        is_listed e = elim (or_cases (same_record b c) (holds same_record (take t.count xs) b) e) [
-          | inl p ↦ in_right here.done here.todo b (rw first (inl ((record_exact b c).0 p)))
-          | inr q ↦ rw listed_is ((holds_is same_record record_exact (take t.count xs) b).0 q)
+        is_listed : (record_eq b c || holds record_eq (take t.count xs) b) ≡ true → In b (walk.listed here)
+        is_listed e = elim (or_cases (record_eq b c) (holds record_eq (take t.count xs) b) e) [
+          | inl p ↦ in_right here.done here.todo b (rw first (inl ((record_eq_exact b c).0 p)))
+          | inr q ↦ rw listed_is ((holds_is record_eq record_eq_exact (take t.count xs) b).0 q)
         ]
 
-        is_new : (same_record b c || holds same_record (take t.count xs) b) ≡ false → In b (take t.count xs) → ⊥
-        is_new e i = both_ways _ (or_parts (same_record b c) (holds same_record (take t.count xs) b) e).1 ((holds_is same_record record_exact (take t.count xs) b).1 i)
+        is_new : (record_eq b c || holds record_eq (take t.count xs) b) ≡ false → In b (take t.count xs) → ⊥
+        is_new e i = both_ways _ (or_parts (record_eq b c) (holds record_eq (take t.count xs) b) e).1 ((holds_is record_eq record_eq_exact (take t.count xs) b).1 i)
 
-        goes_tried : (k : Bool) → (same_record b c || holds same_record (take t.count xs) b) ≡ k → Goes t (tried m k c b t xs)
+        goes_tried : (k : Bool) → (record_eq b c || holds record_eq (take t.count xs) b) ≡ k → Goes t (tried m k c b t xs)
         goes_tried true e = goes_passed (walk.to_listed b leads (is_listed e) refl)
         goes_tried false e = goes_judged (is_new e) (test_answer m b) refl
 
       goes_followed : (o : Option CellRecord) → leads_to (sides_in m) c t.pair ≡ o → Goes t (followed m o c t xs)
       goes_followed None e = goes_passed (walk.to_none e refl)
-      goes_followed (Some b) e = goes_tried b e (same_record b c || holds same_record (take t.count xs) b) refl
+      goes_followed (Some b) e = goes_tried b e (record_eq b c || holds record_eq (take t.count xs) b) refl
 
     goes_numbered : (k : Bool) → ltb t.pair (pair_count c) ≡ k → Goes t (numbered m k c t xs)
     goes_numbered true e = goes_followed (ltb-true t.pair (pair_count c) e) (leads_to (sides_in m) c t.pair) refl

@@ -1,5 +1,4 @@
 pub mod Search
-pub mod Sameness
 pub mod Roads
 pub mod Traces
 pub mod Plants
@@ -9,4 +8,3 @@ pub mod Answers
 pub mod Turns
 pub mod Runs
 pub mod Law
-pub mod Exact

@@ -11,7 +11,7 @@ use Rattle.crossing.specs.Boxes.{fits_frame, lies_in}
 use Rattle.crossing.specs.Crossing.{test_answer}
 use Rattle.crossing.specs.declared.classes.Class.{Class}
 use Rattle.crossing.specs.declared.classes.Class.TheVariants.{Crossed, Clear, Degenerate}
-use Rattle.tracing.specs.Sameness.{same_record}
+use Rattle.cells.specs.Records.{record_eq}
 use Rattle.tracing.specs.Search.{usable}
 use Rattle.tracing.specs.Traces.{longer, onward, TraceNumbers}
 
@@ -83,7 +83,7 @@ module _ (m : Meaning) where
 
   abbrev pub followed : Option CellRecord → CellRecord → TraceNumbers → List CellRecord → Turn
   followed None c t xs = passed c t xs
-  followed (Some b) c t xs = tried (same_record b c || holds same_record (take t.count xs) b) c b t xs
+  followed (Some b) c t xs = tried (record_eq b c || holds record_eq (take t.count xs) b) c b t xs
 
   -- 8 if the cell does not fit, then 6 if it has no pair of that number
   abbrev pub numbered : Bool → CellRecord → TraceNumbers → List CellRecord → Turn

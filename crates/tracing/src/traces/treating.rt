@@ -5,7 +5,7 @@ ghost use Rattle.grid.specs.Frames.{frame_numbers, sides_of};
 ghost use Rattle.grid.specs.Lists.{holds};
 ghost use Rattle.grid.specs.Refusals.{answered};
 ghost use Rattle.cells.specs.Pairs.{pair_count};
-ghost use Rattle.tracing.specs.Sameness.{same_record};
+ghost use Rattle.cells.specs.Records.{record_eq};
 ghost use Rattle.tracing.specs.Steps.{followed, leads_to, record_at, treat as treat_of};
 ghost use Rattle.tracing.specs.Traces.{onward, trace_numbers};
 ghost use Rattle.tracing.specs.Turns.{cell_with_pair, onward_turn, SamePair, turn_of, Unchanged};
@@ -105,7 +105,7 @@ fn take_up<F: Field>(
 
 // Whether a facet is the cell itself or is listed.
 fn is_known(listed: &Listed<CellRecord>, cell: &Cell, facet: &Cell) -> bool
-    ensures { result ≡ (same_record facet.now.plain cell.now.plain || holds same_record (take listed.now.count listed.now.places.now) facet.now.plain) }
+    ensures { result ≡ (record_eq facet.now.plain cell.now.plain || holds record_eq (take listed.now.count listed.now.places.now) facet.now.plain) }
 {
     let record = facet.record();
     record.is_same(&cell.record()) || listed.find(&record).is_some()
