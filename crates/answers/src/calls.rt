@@ -1,120 +1,87 @@
 // The calls and the text of their answers.
-use crate::asks::{Question, ask_quadric, ask_table};
-use crate::records::{number_at, numbers, record_of};
+use crate::asks::{AtVertex, OfCell, ask_quadric, ask_table};
+use crate::readers::{Reader, numbers};
+use crate::stops::Stop;
+use crate::texts::{put_all, refused};
 use cells::{Cell, CellRecord};
 use crossing::class_of;
-use grid::{Frame, Refusal};
+use grid::Frame;
 use std::alloc::{AllocError, Global};
+use std::fmt::Write;
 
+// The heap goes beside what is to be read, as std's calls take it.
 pub fn answer(heap: Global, line: &str) -> Result<String, AllocError> {
+    match answered(heap, line) {
+        Ok(text) => Ok(text),
+        Err(Stop::Unread) => String::from_str(heap, "?"),
+        Err(Stop::Refused(refusal)) => refused(heap, refusal),
+        Err(Stop::OutOfMemory(error)) => Err(error),
+    }
+}
+
+fn answered(heap: Global, line: &str) -> Result<String, Stop> {
     let numbers = numbers(heap, line)?;
-    let word = line.split(' ').next().unwrap_or("");
-    match word {
-        "frame" => frame(heap, numbers.as_slice()),
-        "class" => class(heap, numbers.as_slice()),
-        "ask-table" => ask_table(heap, Question::AtVertex, numbers.as_slice()),
-        "ask-quadric" => ask_quadric(heap, Question::AtVertex, numbers.as_slice()),
-        "test-table" => ask_table(heap, Question::OfCell, numbers.as_slice()),
-        "test-quadric" => ask_quadric(heap, Question::OfCell, numbers.as_slice()),
-        _ => on_cell(heap, word, numbers.as_slice()),
+    let mut reader = Reader::new(heap, numbers.as_slice());
+    match line.split(' ').next().unwrap_or("") {
+        "frame" => frame(&mut reader),
+        "class" => class(&mut reader),
+        "ask-table" => ask_table(AtVertex, &mut reader),
+        "ask-quadric" => ask_quadric(AtVertex, &mut reader),
+        "test-table" => ask_table(OfCell, &mut reader),
+        "test-quadric" => ask_quadric(OfCell, &mut reader),
+        word => on_cell(word, &mut reader),
     }
 }
 
-fn on_cell(heap: Global, word: &str, numbers: &[i64]) -> Result<String, AllocError> {
-    let Some(record) = record_of(numbers) else {
-        return String::from_str(heap, "?");
-    };
-    let cell = match Cell::new(record) {
-        Ok(cell) => cell,
-        Err(refusal) => return refused(heap, refusal),
-    };
-    let n = number_at(numbers, 15).unwrap_or(0);
+// A cell of 15 numbers, and the number of a facet, a cofacet or a pair.
+fn on_cell(word: &str, reader: &mut Reader<'_>) -> Result<String, Stop> {
+    let cell = Cell::new(reader.record()?)?;
+    // 0 stands for a number that is missing or fits no 32 bits: the answers from elsewhere take it so, here and below.
+    let n = reader.number().unwrap_or(0);
     match word {
-        "cell" => vertices(heap, &cell),
-        "facet" => answered(heap, cell.facet(n)),
-        "cofacet" => answered(heap, cell.cofacet(n)),
-        "pair" => pair(heap, &cell, n),
-        _ => String::from_str(heap, "?"),
+        "cell" => vertices(reader.heap(), &cell),
+        "facet" => record(reader.heap(), &cell.facet(n)?),
+        "cofacet" => record(reader.heap(), &cell.cofacet(n)?),
+        "pair" => {
+            let (cofacet, vertex) = cell.pair(n)?;
+            Ok(format!(in reader.heap(); "ok {cofacet} {vertex}")?)
+        }
+        _ => Err(Stop::Unread),
     }
-}
-
-// The number of a refusal, and with 9 the fault's cause, place and height.
-pub fn refused(heap: Global, refusal: Refusal) -> Result<String, AllocError> {
-    let number = refusal.number();
-    let Some(fault) = refusal.fault() else {
-        return format!(in heap; "no {number}");
-    };
-    let cause = fault.cause.number();
-    let place = fault.place;
-    let height = fault.height;
-    format!(in heap; "no {number} {cause} {place} {height}")
 }
 
 // k, and then the values vertex by vertex.
-fn class(heap: Global, numbers: &[i64]) -> Result<String, AllocError> {
-    let k = u8::try_from(number_at(numbers, 0).unwrap_or(0)).unwrap_or(0);
-    let mut values = Vec::new(heap);
-    for number in numbers.iter().skip(1) {
-        values.push(i16::try_from(*number).unwrap_or(0))?;
-    }
+fn class(reader: &mut Reader<'_>) -> Result<String, Stop> {
+    let k = reader.number().unwrap_or(0);
+    let values = reader.all()?;
     match class_of(k, values.as_slice()) {
-        Some(class) => format!(in heap; "ok {class}"),
-        None => String::from_str(heap, "none"),
+        Some(class) => Ok(format!(in reader.heap(); "ok {class}")?),
+        None => Ok(String::from_str(reader.heap(), "none")?),
     }
 }
 
-fn frame(heap: Global, numbers: &[i64]) -> Result<String, AllocError> {
-    let d = number_at(numbers, 0).unwrap_or(0);
-    let k = number_at(numbers, 1).unwrap_or(0);
-    let mut sides = Vec::new(heap);
-    for number in numbers.iter().skip(3) {
-        sides.push(u16::try_from(*number).unwrap_or(0))?;
-    }
-    let d = u8::try_from(d).unwrap_or(0);
-    let k = u8::try_from(k).unwrap_or(0);
-    match Frame::new(d, k, sides.as_slice()) {
-        Ok(_) => String::from_str(heap, "ok"),
-        Err(refusal) => refused(heap, refusal),
-    }
+// d, k, how many sides there are, and the sides.
+fn frame(reader: &mut Reader<'_>) -> Result<String, Stop> {
+    let d = reader.number().unwrap_or(0);
+    let k = reader.number().unwrap_or(0);
+    let _ = reader.number::<i64>();
+    let sides = reader.all()?;
+    Frame::new(d, k, sides.as_slice())?;
+    Ok(String::from_str(reader.heap(), "ok")?)
 }
 
-fn vertices(heap: Global, cell: &Cell) -> Result<String, AllocError> {
-    let cofacets = cell.cofacets();
-    let mut text = format!(in heap; "ok {cofacets}")?;
-    for i in 0..u32::from(cell.dimension()) + 1 {
-        if let Some(vertex) = cell.vertex(i) {
-            let coordinates = format!(in heap; " {vertex}")?;
-            text.push_str(coordinates.as_str())?;
-        }
+fn vertices(heap: Global, cell: &Cell) -> Result<String, Stop> {
+    let mut text = format!(in heap; "ok {}", cell.cofacets())?;
+    for vertex in (0..=u32::from(cell.dimension())).filter_map(|i| cell.vertex(i)) {
+        write!(text, " {vertex}")?;
     }
     Ok(text)
 }
 
-fn answered(heap: Global, answer: Result<Cell, Refusal>) -> Result<String, AllocError> {
-    match answer {
-        Ok(cell) => record(heap, &cell.record()),
-        Err(refusal) => refused(heap, refusal),
-    }
-}
-
-fn record(heap: Global, r: &CellRecord) -> Result<String, AllocError> {
-    let d = r.d;
-    let l = r.l;
+fn record(heap: Global, cell: &Cell) -> Result<String, Stop> {
+    let CellRecord { d, l, base, labels } = cell.record();
     let mut text = format!(in heap; "ok {d} {l}")?;
-    for x in &r.base {
-        let number = format!(in heap; " {x}")?;
-        text.push_str(number.as_str())?;
-    }
-    for label in &r.labels {
-        let number = format!(in heap; " {label}")?;
-        text.push_str(number.as_str())?;
-    }
+    put_all(&mut text, &base)?;
+    put_all(&mut text, &labels)?;
     Ok(text)
-}
-
-fn pair(heap: Global, cell: &Cell, n: u32) -> Result<String, AllocError> {
-    match cell.pair(n) {
-        Ok((cofacet, vertex)) => format!(in heap; "ok {cofacet} {vertex}"),
-        Err(refusal) => refused(heap, refusal),
-    }
 }

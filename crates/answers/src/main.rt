@@ -5,7 +5,8 @@
 mod asks;
 mod calls;
 mod readers;
-mod records;
+mod stops;
+mod texts;
 
 use std::io;
 use std::io::{BufRead, BufReader};

@@ -1,11 +1,17 @@
 // Numbers read one after another, and what they make together; none is read beyond the last.
-use crate::records::record_of;
-use cells::Cell;
+ghost use Rattle.std.specs.Array.Iter.{IntoIterFitsInMemory};
+
+use crate::stops::Stop;
+use cells::{Cell, CellRecord};
 use fields::Row;
 use grid::{Frame, Vertex};
+use std::alloc::{AllocError, Global};
+use std::array;
+use std::num::TryFromIntError;
 
 #[derive(Drop)]
 pub struct Reader<'a> {
+    heap: Global,
     rest: &'a [i64],
 }
 
@@ -16,101 +22,116 @@ pub enum Layer {
     Window(Frame, [u16; 6]),
 }
 
+// The numbers of a line after its first word; one that is no number ends them.
+pub fn numbers(heap: Global, line: &str) -> Result<Vec<i64>, AllocError> {
+    line.split(' ')
+        .skip(1)
+        .map_while(|word| word.parse::<i64>().ok())
+        .collect(heap)
+}
+
 impl<'a> Reader<'a> {
-    pub fn new(numbers: &'a [i64]) -> Reader<'a> {
-        Reader { rest: numbers }
+    pub fn new(heap: Global, numbers: &'a [i64]) -> Reader<'a> {
+        Reader {
+            heap,
+            rest: numbers,
+        }
     }
 
-    pub fn number(&mut self) -> Option<i64> {
-        let (first, rest) = self.rest.split_first()?;
+    pub fn heap(&self) -> Global {
+        self.heap
+    }
+
+    // The bound stands at each function: with a trait of our own in its place, `part`, `frame` and others did not prove.
+    pub fn number<T: TryFrom<i64, Error = TryFromIntError>>(&mut self) -> Result<T, Stop> {
+        let (first, rest) = self.rest.split_first().ok_or(Stop::Unread)?;
         self.rest = rest;
-        Some(*first)
+        Ok(T::try_from(*first)?)
+    }
+
+    fn array<T: TryFrom<i64, Error = TryFromIntError> + Drop, const N: usize>(
+        &mut self,
+    ) -> Result<[T; N], Stop>
+        requires { IntoIterFitsInMemory T.row N.row }
+    {
+        array::try_from_fn(|_| self.number())
+    }
+
+    // A length, and then a reader of that many numbers.
+    fn part(&mut self) -> Result<Reader<'a>, Stop> {
+        let length = self.number()?;
+        let (part, rest) = self.rest.split_at_checked(length).ok_or(Stop::Unread)?;
+        self.rest = rest;
+        Ok(Reader::new(self.heap, part))
     }
 
     // A length, and then that many numbers.
-    pub fn list(&mut self) -> Option<&'a [i64]> {
-        let length = usize::try_from(self.number()?).ok()?;
-        let (list, rest) = self.rest.split_at_checked(length)?;
-        self.rest = rest;
-        Some(list)
+    pub fn list<T: TryFrom<i64, Error = TryFromIntError> + Drop>(
+        &mut self,
+    ) -> Result<Vec<T>, Stop> {
+        let part = self.part()?;
+        part.rest
+            .iter()
+            .map(|number| -> Result<T, Stop> { Ok(T::try_from(*number)?) })
+            .try_collect(self.heap)
+    }
+
+    // All numbers that are left, and 0 for one that does not fit.
+    pub fn all<T: TryFrom<i64, Error = TryFromIntError> + Default + Drop>(
+        &self,
+    ) -> Result<Vec<T>, AllocError> {
+        self.rest
+            .iter()
+            .map(|number| T::try_from(*number).unwrap_or_default())
+            .collect(self.heap)
     }
 
     // d, k and the list of the sides.
-    pub fn frame(&mut self) -> Option<Frame> {
-        let d = u8::try_from(self.number()?).ok()?;
-        let k = u8::try_from(self.number()?).ok()?;
-        let list = self.list()?;
-        let mut sides = [0; 6];
-        for (place, number) in sides.iter_mut().zip(list) {
-            *place = u16::try_from(*number).ok()?;
-        }
-        Frame::new(d, k, sides.get(0..list.len())?).ok()
+    pub fn frame(&mut self) -> Result<Frame, Stop> {
+        let d = self.number()?;
+        let k = self.number()?;
+        let sides = self.list()?;
+        Frame::new(d, k, sides.as_slice()).map_err(|_| Stop::Unread)
     }
 
-    pub fn vertex(&mut self) -> Option<Vertex> {
-        let list = self.list()?;
-        let mut at = [0; 6];
-        for (place, number) in at.iter_mut().zip(list) {
-            *place = i32::try_from(*number).ok()?;
-        }
-        Vertex::new(at.get(0..list.len())?)
+    pub fn vertex(&mut self) -> Result<Vertex, Stop> {
+        let at = self.list()?;
+        Vertex::new(at.as_slice()).ok_or(Stop::Unread)
     }
 
-    // The cell of the 15 numbers that are left.
-    pub fn cell(&mut self) -> Option<Cell> {
-        Cell::new(record_of(self.rest)?).ok()
-    }
-
-    // A list of three rows.
-    pub fn rows(&mut self) -> Option<[Row; 3]> {
-        let mut list = Reader::new(self.list()?);
-        Some([list.row()?, list.row()?, list.row()?])
-    }
-
-    fn row(&mut self) -> Option<Row> {
-        let constant = i16::try_from(self.number()?).ok()?;
-        let linear = self.coefficients()?;
-        let square = self.coefficients()?;
-        Some(Row {
-            constant,
-            linear,
-            square,
+    pub fn record(&mut self) -> Result<CellRecord, Stop> {
+        Ok(CellRecord {
+            d: self.number()?,
+            l: self.number()?,
+            base: self.array()?,
+            labels: self.array()?,
         })
     }
 
-    fn coefficients(&mut self) -> Option<[i16; 6]> {
-        let mut coefficients = [0; 6];
-        for place in &mut coefficients {
-            *place = i16::try_from(self.number()?).ok()?;
-        }
-        Some(coefficients)
+    pub fn cell(&mut self) -> Result<Cell, Stop> {
+        Cell::new(self.record()?).map_err(|_| Stop::Unread)
+    }
+
+    // A list of three rows.
+    pub fn rows(&mut self) -> Result<[Row; 3], Stop> {
+        let mut list = self.part()?;
+        array::try_from_fn(|_| list.row())
+    }
+
+    fn row(&mut self) -> Result<Row, Stop> {
+        Ok(Row {
+            constant: self.number()?,
+            linear: self.array()?,
+            square: self.array()?,
+        })
     }
 
     // 1 and the levels, or 2, the frame and the corner.
-    pub fn layer(&mut self) -> Option<Layer> {
-        match self.number()? {
-            1 => Some(Layer::Level(self.levels()?)),
-            2 => {
-                let own = self.frame()?;
-                Some(Layer::Window(own, self.corner()?))
-            }
-            _ => None,
+    pub fn layer(&mut self) -> Result<Layer, Stop> {
+        match self.number::<u8>()? {
+            1 => Ok(Layer::Level(self.array()?)),
+            2 => Ok(Layer::Window(self.frame()?, self.array()?)),
+            _ => Err(Stop::Unread),
         }
-    }
-
-    fn levels(&mut self) -> Option<[i16; 3]> {
-        let mut levels = [0; 3];
-        for place in &mut levels {
-            *place = i16::try_from(self.number()?).ok()?;
-        }
-        Some(levels)
-    }
-
-    fn corner(&mut self) -> Option<[u16; 6]> {
-        let mut corner = [0; 6];
-        for place in &mut corner {
-            *place = u16::try_from(self.number()?).ok()?;
-        }
-        Some(corner)
     }
 }

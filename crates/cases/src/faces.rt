@@ -3,8 +3,7 @@ use grid::Refusal;
 use std::test::Fail;
 
 fn record(answer: Result<Cell, Refusal>) -> Result<CellRecord, Refusal> {
-    let cell = answer?;
-    Ok(cell.record())
+    answer.map(|cell| cell.record())
 }
 
 #[test]

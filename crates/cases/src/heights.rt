@@ -41,9 +41,7 @@ impl Field for Tall {
 
 #[test]
 fn no_layer_is_higher_than_255(rt: HostRuntime) -> Result<(), Fail> {
-    let Ok(frame) = Frame::new(2, 1, &[2, 1]) else {
-        return Err(Fail::new("refused"));
-    };
+    let frame = Frame::new(2, 1, &[2, 1])?;
     let level = Level::new(Tall { frame }, [0; 3]);
     assert_eq!(rt; level.height(), 255);
     has_fault(&rt, &level, &[2, 1], Cause::Blank, 0, 255)?;

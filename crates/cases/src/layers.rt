@@ -5,9 +5,7 @@ use std::test::Fail;
 
 #[test]
 fn a_level_is_subtracted_and_may_leave_the_scale(rt: HostRuntime) -> Result<(), Fail> {
-    let Ok(frame) = Frame::new(2, 1, &[2, 1]) else {
-        return Err(Fail::new("refused"));
-    };
+    let frame = Frame::new(2, 1, &[2, 1])?;
     let samples = [7, -32767, 32767, 0, -32766, -1];
     let level = Level::new(Table::new(frame, &samples), [1, 0, 0]);
     assert_eq!(rt; level.height(), 1);
@@ -24,9 +22,7 @@ fn a_level_is_subtracted_and_may_leave_the_scale(rt: HostRuntime) -> Result<(), 
 
 #[test]
 fn a_negative_level_is_subtracted(rt: HostRuntime) -> Result<(), Fail> {
-    let Ok(frame) = Frame::new(2, 1, &[1, 1]) else {
-        return Err(Fail::new("refused"));
-    };
+    let frame = Frame::new(2, 1, &[1, 1])?;
     let samples = [-1, 0, -32767, 32767];
     let level = Level::new(Table::new(frame, &samples), [-32768, 0, 0]);
     has_rows(&rt, &level, &[0, 0], &[32767])?;
@@ -37,9 +33,7 @@ fn a_negative_level_is_subtracted(rt: HostRuntime) -> Result<(), Fail> {
 
 #[test]
 fn each_row_has_its_own_level(rt: HostRuntime) -> Result<(), Fail> {
-    let Ok(frame) = Frame::new(3, 2, &[1, 1, 1]) else {
-        return Err(Fail::new("refused"));
-    };
+    let frame = Frame::new(3, 2, &[1, 1, 1])?;
     let samples = [100, 200, -32767, 0, 0, 32767, 1, 2, 3, 4];
     let level = Level::new(Table::new(frame, &samples), [10, -20, -32768]);
     has_rows(&rt, &level, &[0, 0, 0], &[90, 220])?;
@@ -52,9 +46,7 @@ fn each_row_has_its_own_level(rt: HostRuntime) -> Result<(), Fail> {
 
 #[test]
 fn levels_beyond_k_are_not_looked_at(rt: HostRuntime) -> Result<(), Fail> {
-    let Ok(frame) = Frame::new(2, 1, &[1, 1]) else {
-        return Err(Fail::new("refused"));
-    };
+    let frame = Frame::new(2, 1, &[1, 1])?;
     let samples = [32767, -32767, 0, 1];
     let level = Level::new(Table::new(frame, &samples), [0, -32768, 32767]);
     has_rows(&rt, &level, &[0, 0], &[32767])?;
@@ -63,12 +55,8 @@ fn levels_beyond_k_are_not_looked_at(rt: HostRuntime) -> Result<(), Fail> {
 
 #[test]
 fn a_fault_from_below_goes_up_as_it_is(rt: HostRuntime) -> Result<(), Fail> {
-    let Ok(frame) = Frame::new(2, 1, &[2, 1]) else {
-        return Err(Fail::new("refused"));
-    };
-    let Ok(own) = Frame::new(2, 1, &[1, 1]) else {
-        return Err(Fail::new("refused"));
-    };
+    let frame = Frame::new(2, 1, &[2, 1])?;
+    let own = Frame::new(2, 1, &[1, 1])?;
     let samples = [0, 1, 2, 3, -32768];
     let table = Table::new(frame, &samples);
     let level = Level::new(&table, [-5, 0, 0]);
@@ -81,12 +69,8 @@ fn a_fault_from_below_goes_up_as_it_is(rt: HostRuntime) -> Result<(), Fail> {
 
 #[test]
 fn a_corner_is_added(rt: HostRuntime) -> Result<(), Fail> {
-    let Ok(frame) = Frame::new(2, 1, &[3, 2]) else {
-        return Err(Fail::new("refused"));
-    };
-    let Ok(own) = Frame::new(2, 1, &[1, 1]) else {
-        return Err(Fail::new("refused"));
-    };
+    let frame = Frame::new(2, 1, &[3, 2])?;
+    let own = Frame::new(2, 1, &[1, 1])?;
     let samples = [0, 1, 2, 3, 10, 11, 12, 13, 20, 21, 22, 23];
     let corner = [2, 1, 65535, 65535, 65535, 65535];
     let window = Window::new(Table::new(frame, &samples), own, corner);
@@ -105,12 +89,8 @@ fn a_corner_is_added(rt: HostRuntime) -> Result<(), Fail> {
 
 #[test]
 fn sides_beyond_the_axes_below_are_cut(rt: HostRuntime) -> Result<(), Fail> {
-    let Ok(frame) = Frame::new(2, 1, &[3, 2]) else {
-        return Err(Fail::new("refused"));
-    };
-    let Ok(own) = Frame::new(4, 3, &[2, 1, 5, 6]) else {
-        return Err(Fail::new("refused"));
-    };
+    let frame = Frame::new(2, 1, &[3, 2])?;
+    let own = Frame::new(4, 3, &[2, 1, 5, 6])?;
     let samples = [0, 1, 2, 3, 10, 11, 12, 13, 20, 21, 22, 23];
     let window = Window::new(Table::new(frame, &samples), own, [1, 1, 0, 0, 0, 0]);
     assert_eq!(rt; window.frame().d(), 2);
@@ -122,12 +102,8 @@ fn sides_beyond_the_axes_below_are_cut(rt: HostRuntime) -> Result<(), Fail> {
 
 #[test]
 fn missing_sides_are_1(rt: HostRuntime) -> Result<(), Fail> {
-    let Ok(frame) = Frame::new(3, 2, &[1, 1, 2]) else {
-        return Err(Fail::new("refused"));
-    };
-    let Ok(own) = Frame::new(2, 1, &[1, 1]) else {
-        return Err(Fail::new("refused"));
-    };
+    let frame = Frame::new(3, 2, &[1, 1, 2])?;
+    let own = Frame::new(2, 1, &[1, 1])?;
     let samples = [0, 0, 1, 1, 2, 2, 3, 3, 4, 40, 5, 50, 6, 60, 7, 70];
     let window = Window::new(Table::new(frame, &samples), own, [0, 0, 1, 0, 0, 0]);
     assert_eq!(rt; window.frame().d(), 3);
@@ -143,12 +119,8 @@ fn missing_sides_are_1(rt: HostRuntime) -> Result<(), Fail> {
 
 #[test]
 fn a_window_may_hang_over_the_edge(rt: HostRuntime) -> Result<(), Fail> {
-    let Ok(frame) = Frame::new(2, 1, &[3, 2]) else {
-        return Err(Fail::new("refused"));
-    };
-    let Ok(own) = Frame::new(2, 1, &[2, 2]) else {
-        return Err(Fail::new("refused"));
-    };
+    let frame = Frame::new(2, 1, &[3, 2])?;
+    let own = Frame::new(2, 1, &[2, 2])?;
     let samples = [0, 1, 2, 3, 10, 11, 12, 13, 20, 21, 22, 23];
     let table = Table::new(frame, &samples);
     let window = Window::new(&table, own, [2, 1, 0, 0, 0, 0]);
@@ -169,12 +141,8 @@ fn a_window_may_hang_over_the_edge(rt: HostRuntime) -> Result<(), Fail> {
 
 #[test]
 fn a_pile_tells_the_height_of_each_fault(rt: HostRuntime) -> Result<(), Fail> {
-    let Ok(frame) = Frame::new(2, 1, &[3, 1]) else {
-        return Err(Fail::new("refused"));
-    };
-    let Ok(own) = Frame::new(2, 1, &[2, 1]) else {
-        return Err(Fail::new("refused"));
-    };
+    let frame = Frame::new(2, 1, &[3, 1])?;
+    let own = Frame::new(2, 1, &[2, 1])?;
     let samples = [0, 100, -32768, -32767, 1, -32765, 32767, -32764];
     let inner = Level::new(Table::new(frame, &samples), [1, 0, 0]);
     let window = Window::new(inner, own, [1, 0, 0, 0, 0, 0]);
@@ -194,9 +162,7 @@ fn a_pile_tells_the_height_of_each_fault(rt: HostRuntime) -> Result<(), Fail> {
 
 #[test]
 fn a_lent_field_is_no_layer(rt: HostRuntime) -> Result<(), Fail> {
-    let Ok(frame) = Frame::new(2, 1, &[2, 1]) else {
-        return Err(Fail::new("refused"));
-    };
+    let frame = Frame::new(2, 1, &[2, 1])?;
     let samples = [5, 6, 7, 8, 9];
     let table = Table::new(frame, &samples);
     let lent = &table;

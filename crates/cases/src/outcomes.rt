@@ -10,16 +10,13 @@ pub fn has_rows<F: Field>(
     at: &[i32],
     rows: &[i16],
 ) -> Result<(), Fail> {
-    let Some(vertex) = Vertex::new(at) else {
-        return Err(Fail::new("no vertex"));
-    };
-    let Ok(values) = field.at(&vertex) else {
-        return Err(Fail::new("a fault"));
-    };
+    let vertex = Vertex::new(at).ok_or("no vertex")?;
+    let values = field.at(&vertex)?;
     assert_eq!(rt; values.rows(), rows);
     Ok(())
 }
 
+// The three numbers stand one by one, since a `Fault` written out takes five lines at each call.
 pub fn has_fault<F: Field>(
     rt: &impl Abort,
     field: &F,
@@ -28,19 +25,12 @@ pub fn has_fault<F: Field>(
     place: u64,
     height: u8,
 ) -> Result<(), Fail> {
-    let Some(vertex) = Vertex::new(at) else {
-        return Err(Fail::new("no vertex"));
+    let vertex = Vertex::new(at).ok_or("no vertex")?;
+    let fault = Fault {
+        cause,
+        place,
+        height,
     };
-    let Err(fault) = field.at(&vertex) else {
-        return Err(Fail::new("values"));
-    };
-    assert_eq!(rt;
-        fault,
-        Fault {
-            cause,
-            place,
-            height,
-        }
-    );
+    assert_eq!(rt; field.at(&vertex).err(), Some(fault));
     Ok(())
 }

@@ -17,9 +17,7 @@ const LARGE: Row = Row {
 
 #[test]
 fn the_ends_of_the_scale_are_values(rt: HostRuntime) -> Result<(), Fail> {
-    let Ok(frame) = Frame::new(3, 2, &[1, 1, 1]) else {
-        return Err(Fail::new("refused"));
-    };
+    let frame = Frame::new(3, 2, &[1, 1, 1])?;
     let up = Row {
         constant: 32766,
         linear: [1, 1, 0, 0, 0, 0],
@@ -44,9 +42,7 @@ fn the_ends_of_the_scale_are_values(rt: HostRuntime) -> Result<(), Fail> {
 
 #[test]
 fn a_constant_may_be_off_scale(rt: HostRuntime) -> Result<(), Fail> {
-    let Ok(frame) = Frame::new(2, 1, &[2, 1]) else {
-        return Err(Fail::new("refused"));
-    };
+    let frame = Frame::new(2, 1, &[2, 1])?;
     let row = Row {
         constant: -32768,
         linear: [0, 1, 0, 0, 0, 0],
@@ -60,9 +56,7 @@ fn a_constant_may_be_off_scale(rt: HostRuntime) -> Result<(), Fail> {
 
 #[test]
 fn squares_are_of_the_coordinate_alone(rt: HostRuntime) -> Result<(), Fail> {
-    let Ok(frame) = Frame::new(2, 1, &[1000, 4]) else {
-        return Err(Fail::new("refused"));
-    };
+    let frame = Frame::new(2, 1, &[1000, 4])?;
     let row = Row {
         constant: 5,
         linear: [-2, 1, 0, 0, 0, 0],
@@ -80,9 +74,7 @@ fn squares_are_of_the_coordinate_alone(rt: HostRuntime) -> Result<(), Fail> {
 
 #[test]
 fn large_parts_may_cancel(rt: HostRuntime) -> Result<(), Fail> {
-    let Ok(frame) = Frame::new(2, 1, &[1000, 1000]) else {
-        return Err(Fail::new("refused"));
-    };
+    let frame = Frame::new(2, 1, &[1000, 1000])?;
     let row = Row {
         constant: 9,
         linear: [0; 6],
@@ -95,9 +87,7 @@ fn large_parts_may_cancel(rt: HostRuntime) -> Result<(), Fail> {
 
 #[test]
 fn rows_beyond_k_are_not_looked_at(rt: HostRuntime) -> Result<(), Fail> {
-    let Ok(frame) = Frame::new(3, 2, &[9, 9, 9]) else {
-        return Err(Fail::new("refused"));
-    };
+    let frame = Frame::new(3, 2, &[9, 9, 9])?;
     let row = Row {
         constant: 1,
         linear: [1, 10, 100, 0, 0, 0],
@@ -110,9 +100,7 @@ fn rows_beyond_k_are_not_looked_at(rt: HostRuntime) -> Result<(), Fail> {
 
 #[test]
 fn axes_beyond_d_are_not_looked_at(rt: HostRuntime) -> Result<(), Fail> {
-    let Ok(frame) = Frame::new(2, 1, &[9, 9]) else {
-        return Err(Fail::new("refused"));
-    };
+    let frame = Frame::new(2, 1, &[9, 9])?;
     let row = Row {
         constant: 1,
         linear: [1, 10, 32767, -32768, 32767, 32767],
@@ -125,9 +113,7 @@ fn axes_beyond_d_are_not_looked_at(rt: HostRuntime) -> Result<(), Fail> {
 
 #[test]
 fn outside_its_box_a_quadric_has_no_values(rt: HostRuntime) -> Result<(), Fail> {
-    let Ok(frame) = Frame::new(2, 1, &[2, 1]) else {
-        return Err(Fail::new("refused"));
-    };
+    let frame = Frame::new(2, 1, &[2, 1])?;
     let quadric = Quadric::new(frame, [NOTHING, LARGE, LARGE]);
     assert_eq!(rt; quadric.height(), 0);
     has_rows(&rt, &quadric, &[2, 1], &[0])?;
@@ -139,9 +125,7 @@ fn outside_its_box_a_quadric_has_no_values(rt: HostRuntime) -> Result<(), Fail> 
 
 #[test]
 fn the_largest_sum_is_off_scale(rt: HostRuntime) -> Result<(), Fail> {
-    let Ok(frame) = Frame::new(6, 3, &[1000, 1000, 1000, 1000, 1000, 1000]) else {
-        return Err(Fail::new("refused"));
-    };
+    let frame = Frame::new(6, 3, &[1000, 1000, 1000, 1000, 1000, 1000])?;
     let quadric = Quadric::new(frame, [LARGE, LARGE, LARGE]);
     let last = 1001u64 * 1001 * 1001 * 1001 * 1001 * 1001 - 1;
     let corner = [1000; 6];
@@ -151,9 +135,7 @@ fn the_largest_sum_is_off_scale(rt: HostRuntime) -> Result<(), Fail> {
 
 #[test]
 fn the_least_sum_is_off_scale(rt: HostRuntime) -> Result<(), Fail> {
-    let Ok(frame) = Frame::new(6, 1, &[1000, 1000, 1000, 1000, 1000, 1000]) else {
-        return Err(Fail::new("refused"));
-    };
+    let frame = Frame::new(6, 1, &[1000, 1000, 1000, 1000, 1000, 1000])?;
     let row = Row {
         constant: -32768,
         linear: [-32768; 6],

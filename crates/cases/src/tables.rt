@@ -5,9 +5,7 @@ use std::test::Fail;
 
 #[test]
 fn only_the_lowest_number_is_blank(rt: HostRuntime) -> Result<(), Fail> {
-    let Ok(frame) = Frame::new(2, 1, &[2, 1]) else {
-        return Err(Fail::new("refused"));
-    };
+    let frame = Frame::new(2, 1, &[2, 1])?;
     let samples = [7, -32767, 32767, 0, -32768, -1];
     let table = Table::new(frame, &samples);
     has_rows(&rt, &table, &[0, 0], &[7])?;
@@ -20,9 +18,7 @@ fn only_the_lowest_number_is_blank(rt: HostRuntime) -> Result<(), Fail> {
 
 #[test]
 fn one_blank_row_makes_its_vertex_blank(rt: HostRuntime) -> Result<(), Fail> {
-    let Ok(frame) = Frame::new(3, 2, &[1, 1, 1]) else {
-        return Err(Fail::new("refused"));
-    };
+    let frame = Frame::new(3, 2, &[1, 1, 1])?;
     let samples = [1, 2, -32768, 3, 4, -32768, 5, 6];
     let table = Table::new(frame, &samples);
     has_rows(&rt, &table, &[0, 0, 0], &[1, 2])?;
@@ -33,9 +29,7 @@ fn one_blank_row_makes_its_vertex_blank(rt: HostRuntime) -> Result<(), Fail> {
 
 #[test]
 fn a_short_table_is_blank_past_its_end(rt: HostRuntime) -> Result<(), Fail> {
-    let Ok(frame) = Frame::new(2, 1, &[2, 1]) else {
-        return Err(Fail::new("refused"));
-    };
+    let frame = Frame::new(2, 1, &[2, 1])?;
     let samples = [10, 11, 12, 13];
     let table = Table::new(frame, &samples);
     has_rows(&rt, &table, &[0, 0], &[10])?;
@@ -46,9 +40,7 @@ fn a_short_table_is_blank_past_its_end(rt: HostRuntime) -> Result<(), Fail> {
 
 #[test]
 fn an_empty_table_is_blank_everywhere(rt: HostRuntime) -> Result<(), Fail> {
-    let Ok(frame) = Frame::new(2, 1, &[1, 1]) else {
-        return Err(Fail::new("refused"));
-    };
+    let frame = Frame::new(2, 1, &[1, 1])?;
     let table = Table::new(frame, &[]);
     has_fault(&rt, &table, &[0, 0], Cause::Blank, 0, 0)?;
     has_fault(&rt, &table, &[1, 1], Cause::Blank, 3, 0)?;
@@ -57,9 +49,7 @@ fn an_empty_table_is_blank_everywhere(rt: HostRuntime) -> Result<(), Fail> {
 
 #[test]
 fn a_vertex_without_its_last_sample_is_blank(rt: HostRuntime) -> Result<(), Fail> {
-    let Ok(frame) = Frame::new(3, 2, &[1, 1, 1]) else {
-        return Err(Fail::new("refused"));
-    };
+    let frame = Frame::new(3, 2, &[1, 1, 1])?;
     let samples = [1, 2, 3, 4, 5];
     let table = Table::new(frame, &samples);
     has_rows(&rt, &table, &[0, 0, 0], &[1, 2])?;
@@ -70,9 +60,7 @@ fn a_vertex_without_its_last_sample_is_blank(rt: HostRuntime) -> Result<(), Fail
 
 #[test]
 fn samples_beyond_the_box_are_not_looked_at(rt: HostRuntime) -> Result<(), Fail> {
-    let Ok(frame) = Frame::new(2, 1, &[1, 1]) else {
-        return Err(Fail::new("refused"));
-    };
+    let frame = Frame::new(2, 1, &[1, 1])?;
     let samples = [1, 2, 3, 4, 5, 6];
     let table = Table::new(frame, &samples);
     has_rows(&rt, &table, &[1, 1], &[4])?;
@@ -81,9 +69,7 @@ fn samples_beyond_the_box_are_not_looked_at(rt: HostRuntime) -> Result<(), Fail>
 
 #[test]
 fn axis_1_runs_fastest(rt: HostRuntime) -> Result<(), Fail> {
-    let Ok(frame) = Frame::new(3, 2, &[2, 1, 1]) else {
-        return Err(Fail::new("refused"));
-    };
+    let frame = Frame::new(3, 2, &[2, 1, 1])?;
     let samples = [
         0, 1, 10, 11, 20, 21, 30, 31, 40, 41, 50, 51, 60, 61, 70, 71, 80, 81, 90, 91, 100, 101,
         110, 111,
@@ -100,9 +86,7 @@ fn axis_1_runs_fastest(rt: HostRuntime) -> Result<(), Fail> {
 
 #[test]
 fn outside_the_box_has_place_0(rt: HostRuntime) -> Result<(), Fail> {
-    let Ok(frame) = Frame::new(2, 1, &[2, 1]) else {
-        return Err(Fail::new("refused"));
-    };
+    let frame = Frame::new(2, 1, &[2, 1])?;
     let samples = [0, 1, 2, 3, 4, 5];
     let table = Table::new(frame, &samples);
     assert_eq!(rt; table.height(), 0);

@@ -1,17 +1,21 @@
 -- What it means that a call answers a facet or a cofacet.
-use Rattle.std.proofs.Common.{◌≡◌, ℕ, ◌<◌, ◌≤◌, Bool, true, false, cond, ◌&&◌, ltb, leb, length, Ok, Err, refl, ap, ◌∙◌, arith}
+use Rattle.std.proofs.Common.{◌≡◌, ℕ, ◌<◌, ◌≤◌, Bool, true, false, cond, ◌&&◌, ltb, leb, length, Some, None, Ok, Err, refl, sym, ap, ◌∙◌, arith}
 use Rattle.std.proofs.lemmas.Bool.{and_from, and_parts, le-leb, leb-true, lt-ltb, ltb-true}
 use Rattle.grid.specs.Refusals.{refusal}
 use Rattle.cells.specs.Cells.{all_in_world}
 use Rattle.cells.specs.Cofacets.{cofacet_answer, cofacet_of}
 use Rattle.cells.specs.Facets.{facet_answer, facet_of}
 use Rattle.cells.specs.Splits.{splits}
+use Rattle.cells.specs.Vertices.{vertex_answer, vertex_of}
 use Rattle.cells.specs.declared.records.CellRecord.{CellRecord}
 
 -- an answer that is granted was granted for its test, with its value
 granted : {X Y : Type 0} (b : Bool) (x z : X) (e : Y) → cond b (Ok x) (Err e) ≡ Ok z → (b ≡ true) × (x ≡ z)
 granted true x z e h = (refl, (cc))
 granted false x z e h = absurd (let n : ◌≡◌ {A = ℕ} 0 1 = cc in omega arith)
+
+pub vertex_granted : (r : CellRecord) (i : ℕ) → i ≤ r.l → Some (vertex_of r i) ≡ vertex_answer r i
+vertex_granted r i h = sym (ap (λ b. cond b (Some (vertex_of r i)) None) (le-leb i r.l h))
 
 pub facet_granted : (r : CellRecord) (i : ℕ) → 1 ≤ r.l → i ≤ r.l → facet_answer r i ≡ Ok (facet_of r i)
 facet_granted r i h g = ap (λ b. cond b (Ok (facet_of r i)) (Err (refusal 3))) (and_from (leb 1 r.l) (leb i r.l) (le-leb 1 r.l h) (le-leb i r.l g))

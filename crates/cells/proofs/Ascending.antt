@@ -1,14 +1,15 @@
 -- The vertices of a cell ascend: from one vertex to the next the axes of one part rise, each axis once.
-use Rattle.std.proofs.Common.{◌≡◌, ℕ, ◌+◌, ◌<◌, ◌≤◌, true, pos, ◌+ℤ◌, ◌≤ℤ◌, ◌<ℤ◌, sym, refl, subst, inl, inr, arith}
-use Rattle.std.proofs.lemmas.Int.{ints}
+use Rattle.std.proofs.Common.{◌≡◌, ℕ, ◌+◌, ◌<◌, ◌≤◌, true, pos, ◌+ℤ◌, ◌≤ℤ◌, ◌<ℤ◌, sym, refl, subst, inl, inr, arith, ap, ◌∙◌, w32, SFits, to_z, of_z}
+use Rattle.std.proofs.lemmas.Int.{ints, to_z-of_z}
 use Rattle.std.proofs.lemmas.Bool.{cases_lt}
 use Rattle.std.proofs.lemmas.Bool.Decides.{nat_tests}
-use Rattle.cells.specs.Cells.{IsCell}
+use Rattle.cells.specs.Cells.{is_cell, IsCell}
 use Rattle.cells.specs.Chains.{Ascends}
 use Rattle.cells.specs.Records.{base_at, label}
 use Rattle.cells.specs.Vertices.{coordinate}
 use Rattle.cells.specs.World.{in_world}
 use Rattle.cells.specs.declared.records.CellRecord.{CellRecord}
+use Rattle.cells.proofs.Checked.{is_cell_lem}
 use Rattle.cells.proofs.Walked.{closed_form, Labelled, passed}
 
 pub cell_labelled : (r : CellRecord) → IsCell r → Labelled r
@@ -21,6 +22,14 @@ label_le r c j = elim (cases_lt r.d j) [ inl g ↦ (let e = c.labels_rest j g in
 
 pub base_in_world : (r : CellRecord) → IsCell r → (j : ℕ) → in_world (base_at r j) ≡ true
 base_in_world r c j = elim (cases_lt j r.d) [ inl g ↦ c.world 0 j (omega arith) g | inr g ↦ (rw (c.base_rest j g) refl) ]
+
+-- the same from the test of a cell, and for a number as it is read
+
+pub label_small : (r : CellRecord) → is_cell r ≡ true → (j : ℕ) → label r j ≤ 7
+label_small r h j = let c = is_cell_lem r h in let d = c.d_high in let l = c.l_high in let e = label_le r c j in omega arith
+
+pub read_in_world : (r : CellRecord) → is_cell r ≡ true → (j : ℕ) → SFits w32 (base_at r j) → in_world (to_z w32 (of_z w32 (base_at r j))) ≡ true
+read_in_world r h j s = ap in_world (to_z-of_z w32 (base_at r j) s) ∙ base_in_world r (is_cell_lem r h) j
 
 passed_up : (x i : ℕ) → passed x i ≤ passed x (i + 1)
 passed_up x i = grind (arith, nat_tests)

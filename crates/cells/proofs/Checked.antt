@@ -1,10 +1,13 @@
 -- The test of a record says what a cell is, both ways; and along each axis the first and the last vertex tell of all.
-use Rattle.std.proofs.Common.{◌≡◌, ℕ, ◌+◌, ◌-◌, ◌<◌, ◌≤◌, Bool, true, false, ◌&&◌, length, ℤ, pos, negsuc, ◌+ℤ◌, sym, refl, ◌∙◌, subst, inl, inr, arith}
-use Rattle.std.proofs.lemmas.List.{get_or_past}
+use Rattle.std.proofs.Common.{◌≡◌, ℕ, ◌+◌, ◌-◌, ◌<◌, ◌≤◌, Bool, true, false, ◌&&◌, eqb, length, take, ap, ℤ, pos, negsuc, ◌+ℤ◌, sym, refl, ◌∙◌, subst, inl, inr, arith}
+use Rattle.std.specs.List.{list_any}
+use Rattle.std.specs.Prelude.{IsTrue, ◌↔◌}
+use Rattle.std.proofs.lemmas.List.{get_or_past, get_or-take, length-take-le}
 use Rattle.std.proofs.lemmas.Int.{ints}
 use Rattle.std.proofs.lemmas.Bool.{and_from, and_parts, cases_lt, eq-eqb, eqb-true, le-leb}
 use Rattle.std.proofs.lemmas.Bool.Decides.{nat_tests}
-use Rattle.grid.specs.Below.{all_below}
+use Rattle.grid.specs.Below.{all_below, some_below}
+use Rattle.grid.proofs.Told.{list_any-below}
 use Rattle.grid.proofs.Below.{all_at, all_from, some_at, some_from}
 use Rattle.cells.specs.Cells.{all_in_world, base_ok, coordinate_ok, in_part, is_cell, IsCell, is_partition, is_placed, is_zero, label_ok, next_part_full, vertex_ok}
 use Rattle.cells.specs.Closed.{axis_ok, closed_coordinate}
@@ -81,6 +84,12 @@ partition_to r p =
 pub labelled : (r : CellRecord) → Partition r → Labelled r
 labelled r p = record { used = λ a h. p.parted a (omega arith); last = p.last }
 
+-- a search through the labels that d leaves, for a part
+pub part_told : (r : CellRecord) (p : ℕ) → length r.labels ≡ 7 → r.d ≤ 6 → list_any (λ y. eqb y p) (take (r.d + 1) r.labels) ≡ some_below (in_part r p) (r.d + 1)
+part_told r p e h =
+    let n : length (take (r.d + 1) r.labels) ≡ r.d + 1 = length-take-le (r.d + 1) r.labels (omega arith) in
+    list_any-below (λ y. eqb y p) (in_part r p) 0 (take (r.d + 1) r.labels) (λ k lt. ap (λ y. eqb y p) (get_or-take (r.d + 1) r.labels k 0 (omega arith))) ∙ ap (some_below (in_part r p)) n
+
 -- the place in the world
 
 pub record Placed (r : CellRecord) : Type 0 where
@@ -156,6 +165,14 @@ cell_is r i = and_from (is_partition r) (is_placed r) (partition_to r parts) (pl
 
     place : Placed r
     place = record { base_long = i.base_long; base_rest = i.base_rest; world = i.world }
+
+-- an answer that tells by the test says what a cell is
+pub cell_told : (b : Bool) (r : CellRecord) → b ≡ is_cell r → IsTrue b ↔ (IsCell r)
+cell_told b r e = (λ h. is_cell_lem r (sym e ∙ h), λ i. e ∙ cell_is r i)
+
+pub cell_parts : (r : CellRecord) → is_cell r ≡ (is_partition r && is_placed r)
+unfolding is_cell
+cell_parts r = refl
 
 pub cell_placed : (r : CellRecord) → is_partition r ≡ true → is_placed r ≡ true → is_cell r ≡ true
 unfolding is_cell

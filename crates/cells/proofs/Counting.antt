@@ -1,7 +1,9 @@
 -- The splits of a cell: how many each part has, which one a number gives, and that no two are alike.
-use Rattle.std.proofs.Common.{◌≡◌, ℕ, zero, suc, ◌+◌, ◌-◌, ◌*◌, ◌^◌, ◌<◌, ◌≤◌, Bool, true, false, cond, length, get_or, sym, ap, ◌∙◌, subst, ap₂, add-one, arith, pow_mono}
+use Rattle.std.proofs.Common.{◌≡◌, ℕ, zero, suc, ◌+◌, ◌-◌, ◌*◌, ◌^◌, ◌<◌, ◌≤◌, Bool, true, false, cond, eqb, length, get_or, take, refl, sym, ap, add-zero, ◌∙◌, subst, ap₂, add-one, arith, pow_mono}
 use Rattle.std.proofs.lemmas.List.{length-map, get_or-map}
-use Rattle.std.proofs.lemmas.Bool.{eq-eqb}
+use Rattle.std.proofs.lemmas.List.{take_all}
+use Rattle.std.proofs.lemmas.List.Sums.{count_by_more_no, count_by_more_yes, sum_by-cons}
+use Rattle.std.specs.List.{count_by, range_with_len, sum_by}
 use Rattle.cells.specs.Chosen.{chosen}
 use Rattle.cells.specs.Cells.{in_part, IsCell}
 use Rattle.cells.specs.Splits.{is_split, no_split, over_parts, part_size, split_at, split_by, splits, splits_of, splits_to}
@@ -9,7 +11,7 @@ use Rattle.cells.specs.Spread.{spread}
 use Rattle.cells.specs.declared.records.CellRecord.{CellRecord}
 use Rattle.grid.proofs.Below.{length-table, get_or-table}
 use Rattle.cells.proofs.Listing.{splits_none, length_more, at_here, at_splits}
-use Rattle.cells.proofs.Choosing.{chosen_none, length-chosen_more, chosen_has}
+use Rattle.cells.proofs.Choosing.{chosen_none, length-chosen_more}
 use Rattle.cells.proofs.Masking.{codes_are}
 
 pub count_of : (r : CellRecord) (p : ℕ) → length (splits_of r p) ≡ 2 ^ part_size r p - 2
@@ -51,14 +53,31 @@ count_le r (suc n) =
     let k : length (splits_to r (n + 1)) ≤ 126 * (n + 1) = omega arith in
     rw (← add-one n) k
 
--- no part is empty
-pub power_two : (r : CellRecord) → IsCell r → (p : ℕ) → 1 ≤ p → p ≤ r.l + 1 → 2 ≤ 2 ^ part_size r p
-power_two r is p h g =
-    let f = is.full p h g in
-    let w = chosen_has (in_part r p) 7 f.0 (omega (arith, f.1, is.d_high)) (eq-eqb _ _ f.2) in
-    let v = w.1.within in
-    let m : 1 ≤ part_size r p = omega arith in
-    pow_mono m
+-- the labels that name a part, counted one by one
+counted_to : (r : CellRecord) (p n : ℕ) → n ≤ length r.labels → count_by (λ x. eqb x p) (take n r.labels) ≡ length (chosen (in_part r p) n)
+counted_to r p zero h = sym (chosen_none _)
+counted_to r p (suc n) h = rw (← add-one n) (go (in_part r p n) refl (counted_to r p n (omega arith)))
+  where
+    go : (b : Bool) → in_part r p n ≡ b → count_by (λ x. eqb x p) (take n r.labels) ≡ length (chosen (in_part r p) n) → count_by (λ x. eqb x p) (take (n + 1) r.labels) ≡ length (chosen (in_part r p) (n + 1))
+    go true e ih = count_by_more_yes (λ x. eqb x p) r.labels n 0 (omega arith) e ∙ ap (λ k. k + 1) ih ∙ sym (length-chosen_more (in_part r p) n ∙ ap (λ b. length (chosen (in_part r p) n) + cond b 1 0) e)
+    go false e ih = count_by_more_no (λ x. eqb x p) r.labels n 0 (omega arith) e ∙ ih ∙ sym (length-chosen_more (in_part r p) n ∙ ap (λ b. length (chosen (in_part r p) n) + cond b 1 0) e ∙ add-zero _)
+
+pub counted : (r : CellRecord) (p : ℕ) → length r.labels ≡ 7 → count_by (λ x. eqb x p) r.labels ≡ part_size r p
+counted r p e = ap (count_by (λ x. eqb x p)) (sym (take_all 7 r.labels (omega arith))) ∙ counted_to r p 7 (omega arith)
+
+-- the sum over the parts, from the first to the last
+summed_from : (r : CellRecord) (m n : ℕ) → length (splits_to r m) + sum_by (λ p. length (splits_of r p)) (range_with_len (m + 1) n) ≡ length (splits_to r (m + n))
+summed_from r m zero = add-zero _ ∙ ap (λ k. length (splits_to r k)) (sym (add-zero m))
+summed_from r m (suc n) =
+    let h : ℕ → ℕ = λ p. length (splits_of r p) in
+    let e = summed_from r (m + 1) n in
+    let f = length_more r m in
+    let s : sum_by h (range_with_len (m + 1) (suc n)) ≡ h (m + 1) + sum_by h (range_with_len (m + 1 + 1) n) = sum_by-cons h (m + 1) (range_with_len (m + 1 + 1) n) in
+    let k : (m + 1) + n ≡ m + suc n = omega arith in
+    rw (← k) (omega arith)
+
+pub summed : (r : CellRecord) (n : ℕ) → sum_by (λ p. length (splits_of r p)) (range_with_len 1 n) ≡ length (splits_to r n)
+summed r n = let e = summed_from r 0 n in let f = splits_none r in let k : 0 + n ≡ n = omega arith in let g : length (splits_to r (0 + n)) ≡ length (splits_to r n) = ap (λ k. length (splits_to r k)) k in omega arith
 
 -- split number c, found in part p
 pub found_at : (r : CellRecord) (p t c : ℕ) → 1 ≤ p → p ≤ r.l + 1 → t < length (splits_of r p) → length (splits_to r (p - 1)) + t ≡ c → (c < length (splits r)) × (split_by p (spread (in_part r p) 0 7 (t + 1)) ≡ split_at r c)

@@ -5,6 +5,8 @@ pub mod Ascending
 pub mod Telling
 pub mod First
 pub mod Pigeon
+pub mod Mapped
+pub mod Ranged
 pub mod Choosing
 pub mod Coding
 pub mod Merging

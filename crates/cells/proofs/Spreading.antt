@@ -1,25 +1,13 @@
--- A loop that spreads a number over the places that pass, bit by bit, and one that counts their sets by doubling.
-use Rattle.std.proofs.Common.{◌≡◌, ℕ, suc, ◌+◌, ◌-◌, ◌*◌, ◌/◌, ◌%◌, ◌^◌, ◌<◌, ◌≤◌, Bool, true, false, cond, length, sym, refl, ap, ◌∙◌, subst, ap₂, add-zero, mul_assoc, mul-add, add-one, arith, pow_mono}
+-- A loop that spreads a number over the places that pass, bit by bit.
+use Rattle.std.proofs.Common.{◌≡◌, ℕ, suc, ◌+◌, ◌-◌, ◌*◌, ◌/◌, ◌%◌, ◌^◌, ◌<◌, Bool, true, false, cond, sym, refl, ap, ◌∙◌, subst, ap₂, mul_assoc, mul-add, add-one, arith}
 use native.Mathlib.Nat.{pow-succ'}
-use Rattle.cells.specs.Chosen.{chosen}
 use Rattle.cells.specs.Spread.{spread}
-use Rattle.cells.proofs.Choosing.{length-chosen_more}
-
-pub power_more : (q : ℕ → Bool) (n : ℕ) → 2 ^ length (chosen q (n + 1)) ≡ cond (q n) (2 * 2 ^ length (chosen q n)) (2 ^ length (chosen q n))
-power_more q n = ap (λ k. 2 ^ k) (length-chosen_more q n) ∙ go (q n) (length (chosen q n))
-  where
-    go : (b : Bool) (k : ℕ) → 2 ^ (k + cond b 1 0) ≡ cond b (2 * 2 ^ k) (2 ^ k)
-    go true k = ap (λ m. 2 ^ m) (add-one k) ∙ pow-succ' 2 k
-    go false k = ap (λ m. 2 ^ m) (add-zero k)
 
 -- a loop that spreads bit by bit: what is done, and what is left at place j of 7
 pub record Spreads (q : ℕ → Bool) (n j rest bit code : ℕ) : Type 0 where
   pub bit_is : bit ≡ 2 ^ j
   pub done : code < bit
   pub whole : code + bit * spread q j (7 - j) rest ≡ spread q 0 7 n
-
-pub spreads_none : (q : ℕ → Bool) (n : ℕ) → Spreads q n 0 n 1 0
-spreads_none q n = record { bit_is = refl; done = omega arith; whole = omega arith }
 
 spread_step : (q : ℕ → Bool) (j t : ℕ) → j < 7 → spread q j (7 - j) t ≡ cond (q j) (t % 2 + 2 * spread q (j + 1) (7 - (j + 1)) (t / 2)) (2 * spread q (j + 1) (7 - (j + 1)) t)
 unfolding spread
@@ -31,9 +19,6 @@ times b x y = mul-add b x (2 * y) ∙ ap (λ k. b * x + k) (sym (mul_assoc b 2 y
 module _ (q : ℕ → Bool) (n j rest bit code : ℕ) (h : j < 7) (s : Spreads q n j rest bit code) where
   double : bit * 2 ≡ 2 ^ (j + 1)
   double = let e = s.bit_is in let p = pow-succ' 2 j in let k : 2 ^ (j + 1) ≡ 2 ^ suc j = ap (λ m. 2 ^ m) (add-one j) in omega arith
-
-  pub bit_low : bit ≤ 64
-  bit_low = let e = s.bit_is in let m : j ≤ 6 = omega arith in let p : 2 ^ j ≤ 2 ^ 6 = pow_mono m in omega arith
 
   -- the place does not pass; it does, and the bit is 1; or 0
   pub spreads_pass : q j ≡ false → Spreads q n (j + 1) rest (bit * 2) code

@@ -1,13 +1,15 @@
 -- The walk along the parts: part p steps once along the axes of its numbers, and once back along all axes if it has the last
 -- number. So a coordinate has grown by one once its part is passed, and is back after the last part.
-use Rattle.std.proofs.Common.{◌≡◌, ℕ, zero, suc, ◌+◌, ◌<◌, ◌≤◌, cond, eqb, leb, ℤ, pos, negsuc, ◌+ℤ◌, refl, ap, ◌∙◌, ap₂, add-one, arith}
+use Rattle.std.proofs.Common.{◌≡◌, ℕ, zero, suc, ◌+◌, ◌<◌, ◌≤◌, cond, eqb, leb, ltb, inl, inr, ℤ, pos, negsuc, ◌+ℤ◌, refl, ap, ◌∙◌, ap₂, add-one, arith}
 use Rattle.std.proofs.lemmas.Int.{ints}
-use Rattle.std.proofs.lemmas.Bool.{ne_eqb, eq-eqb}
+use Rattle.std.proofs.lemmas.Bool.{cases_lt, ne_eqb, eq-eqb}
 use Rattle.std.proofs.lemmas.Bool.Decides.{nat_tests}
 use Rattle.cells.specs.Closed.{closed_coordinate}
 use Rattle.cells.specs.Records.{base_at, label}
-use Rattle.cells.specs.Vertices.{coordinate, part_step, step_in}
+use Rattle.cells.specs.Vertices.{coordinate, padded_coordinate, part_step, step_in}
 use Rattle.cells.specs.declared.records.CellRecord.{CellRecord}
+use Rattle.grid.specs.Below.{table}
+use Rattle.grid.proofs.Below.{same_table}
 use Rattle.grid.proofs.Summed.{sum_more, sum_one}
 
 -- what part p adds to coordinate a: x is the label of the axis, y that of the last number
@@ -58,6 +60,13 @@ closed_form r t (suc i) a h g =
     let step = part_step_lem r (suc i) a g ∙ gained_before (suc i) (label r a) (label r r.d) (omega arith) in
     let more = passed_more (label r a) i in
     omega (arith, ints)
+
+-- the same with 0 past the axes
+pub padded_form : (r : CellRecord) → Labelled r → (i : ℕ) → i ≤ r.l → table 6 (λ a. cond (ltb a r.d) (closed_coordinate r i a) (pos 0)) ≡ table 6 (padded_coordinate r i)
+padded_form r t i h = same_table 6 (λ a. cond (ltb a r.d) (closed_coordinate r i a) (pos 0)) (padded_coordinate r i) (pos 0) (λ a g. elim (cases_lt a r.d) [
+  | inl k ↦ (let e = closed_form r t i a h k in grind (arith, nat_tests))
+  | inr k ↦ grind (arith, nat_tests)
+])
 
 -- after the last part a coordinate has gained one and lost one
 pub leads_back : (r : CellRecord) → Labelled r → (a : ℕ) → a < r.d → coordinate r (r.l + 1) a ≡ base_at r a

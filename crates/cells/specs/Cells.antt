@@ -1,5 +1,5 @@
 -- What a cell is: a base vertex and an ordered partition of the numbers 1 to d + 1 into l + 1 parts.
-use Rattle.std.specs.Prelude.{◌≡◌, ℕ, ◌+◌, ◌<◌, ◌≤◌, Bool, true, cond, ◌&&◌, ◌||◌, length, ℤ, pos, Ok, Err, Result, ◌==◌, int_le, nat_le, nat_lt}
+use Rattle.std.specs.Prelude.{◌≡◌, ℕ, ◌+◌, ◌<◌, ◌≤◌, Bool, true, if◌then◌else◌, ◌&&◌, ◌||◌, length, ℤ, pos, Ok, Err, Result, ◌==◌, int_le, nat_le, nat_lt}
 use Rattle.grid.specs.Below.{all_below, some_below}
 use Rattle.grid.specs.Refusals.{RefusalNumbers, refusal}
 use Rattle.cells.specs.Records.{base_at, label}
@@ -28,7 +28,7 @@ pub record IsCell (r : CellRecord) : Type 0 where
 -- The same as a test.
 
 abbrev pub label_ok : CellRecord → ℕ → Bool
-label_ok r j = cond (nat_le j r.d) (nat_le 1 (label r j) && nat_le (label r j) (r.l + 1)) (label r j == 0)
+label_ok r j = if nat_le j r.d then nat_le 1 (label r j) && nat_le (label r j) (r.l + 1) else label r j == 0
 
 abbrev pub in_part : CellRecord → ℕ → ℕ → Bool
 in_part r p j = label r j == p
@@ -66,4 +66,4 @@ is_cell r = is_partition r && is_placed r
 
 -- the cell of exactly that record, or refusal 1
 abbrev pub cell_answer : CellRecord → Result CellRecord RefusalNumbers
-cell_answer r = cond (is_cell r) (Ok r) (Err (refusal 1))
+cell_answer r = if is_cell r then Ok r else Err (refusal 1)

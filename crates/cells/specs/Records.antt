@@ -1,6 +1,6 @@
 -- Reading a cell record. Axes and numbers count from 0 here: place a of the base is for axis a + 1, and place j of the labels
 -- for the number j + 1, so that place d is for the number d + 1.
-use Rattle.std.specs.Prelude.{◌≡◌, ℕ, Bool, ◌&&◌, ℤ, pos, Decides, nat_eq, slice_index, slice_index_or, ◌==◌}
+use Rattle.std.specs.Prelude.{◌≡◌, ℕ, Bool, ◌&&◌, ℤ, pos, IsTrue, ◌↔◌, nat_eq, slice_index, slice_index_or, ◌==◌}
 use Rattle.std.specs.Ordering.{int_eq}
 use Rattle.std.specs.Cmp.Lexicographic.{pointwise}
 use Rattle.cells.specs.declared.records.CellRecord.{CellRecord}
@@ -17,4 +17,4 @@ record_eq r s = r.d == s.d && (r.l == s.l && (pointwise int_eq r.base s.base && 
 
 -- it says yes exactly for equal records
 abbrev pub RecordEqExact : Type 0
-RecordEqExact = (r s : CellRecord) → Decides (record_eq r s) (r ≡ s)
+RecordEqExact = (r s : CellRecord) → IsTrue (record_eq r s) ↔ (r ≡ s)

@@ -1,5 +1,5 @@
 -- The vertices of a cell: from the base, the steps of one part after another.
-use Rattle.std.specs.Prelude.{ℕ, zero, suc, ◌+◌, cond, List, ℤ, pos, negsuc, ◌+ℤ◌, Some, None, Option, ◌==◌, nat_le, nat_lt}
+use Rattle.std.specs.Prelude.{ℕ, zero, suc, ◌+◌, if◌then◌else◌, List, ℤ, pos, negsuc, ◌+ℤ◌, Some, None, Option, ◌==◌, nat_le, nat_lt}
 use Rattle.grid.specs.Below.{table}
 use Rattle.cells.specs.Records.{base_at, label}
 use Rattle.grid.specs.Sums.{sum_below}
@@ -7,11 +7,11 @@ use Rattle.cells.specs.declared.records.CellRecord.{CellRecord}
 
 -- how far the number at place j steps along axis a: 1 along its own axis, and the last number, d + 1, -1 along all axes
 abbrev pub number_step : ℕ → ℕ → ℕ → ℤ
-number_step d j a = cond (j == d) (negsuc 0) (pos (cond (j == a) 1 0))
+number_step d j a = if j == d then negsuc 0 else pos (if j == a then 1 else 0)
 
 -- the step of the number at place j if it is in part p
 abbrev pub step_in : CellRecord → ℕ → ℕ → ℕ → ℤ
-step_in r p a j = cond (label r j == p) (number_step r.d j a) (pos 0)
+step_in r p a j = if label r j == p then number_step r.d j a else pos 0
 
 -- the steps of all numbers in part p together
 abbrev pub part_step : CellRecord → ℕ → ℕ → ℤ
@@ -27,11 +27,11 @@ vertex_of r i = table r.d (coordinate r i)
 
 -- the same with 0 past the axes, as a record holds it
 abbrev pub padded_coordinate : CellRecord → ℕ → ℕ → ℤ
-padded_coordinate r i a = cond (nat_lt a r.d) (coordinate r i a) (pos 0)
+padded_coordinate r i a = if nat_lt a r.d then coordinate r i a else pos 0
 
 abbrev pub vertices_of : CellRecord → List (List ℤ)
 vertices_of r = table (r.l + 1) (vertex_of r)
 
 -- there is no vertex above l
 abbrev pub vertex_answer : CellRecord → ℕ → Option (List ℤ)
-vertex_answer r i = cond (nat_le i r.l) (Some (vertex_of r i)) None
+vertex_answer r i = if nat_le i r.l then Some (vertex_of r i) else None

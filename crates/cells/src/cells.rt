@@ -4,6 +4,7 @@ mod cofacets;
 mod display;
 mod facets;
 mod pairs;
+mod splits;
 
 ghost use Rattle.std.specs.Prelude.{◌≡◌, ◌≤◌, true};
 ghost use Rattle.cells.specs.Cells.{is_cell};
@@ -17,4 +18,12 @@ pub struct Cell {
     ghost d_low: { 2 ≤ plain.d },
     ghost d_high: { plain.d ≤ 6 },
     ghost l_high: { plain.l ≤ plain.d },
+}
+
+impl Cell {
+    pub fn record(&self) -> CellRecord
+        ensures { result ≡ self.now.plain }
+    {
+        self.plain
+    }
 }

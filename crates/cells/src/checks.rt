@@ -1,122 +1,87 @@
 // The test of a record's numbers.
-ghost use Rattle.std.specs.Prelude.{◌≡◌, ◌+◌, ◌<◌, ◌≤◌, true, length, Decides};
-ghost use Rattle.grid.specs.Below.{all_below, some_below};
-ghost use Rattle.cells.specs.Cells.{in_part, is_cell, IsCell, is_partition, is_placed, label_ok, next_part_full};
-ghost use Rattle.cells.specs.Closed.{axis_ok, closed_coordinate};
-ghost use Rattle.cells.specs.Records.{base_at};
+ghost use Rattle.std.specs.Prelude.{◌≡◌, ◌+◌, ◌+ℤ◌, ◌<◌, ◌≤◌, ◌↔◌, true, IsTrue, length, pos, if◌then◌else◌, nat_le};
+ghost use Rattle.grid.specs.Below.{all_below};
+ghost use Rattle.cells.specs.Cells.{is_cell, IsCell, is_partition, is_placed, label_ok, next_part_full};
+ghost use Rattle.cells.specs.Closed.{axis_ok};
 ghost use Rattle.cells.specs.World.{in_world};
 
 use crate::records::CellRecord;
 use crate::world::is_in_world;
 
-pub fn is_cell(r: &CellRecord) -> bool
-    ensures test { result ≡ is_cell r.now }
-    ensures means { Decides result (IsCell r.now) }
-{
-    is_partition(r) && is_placed(r)
-}
-
-fn is_partition(r: &CellRecord) -> bool
-    ensures test { result ≡ is_partition r.now }
-    ensures long { length r.now.base ≡ 6 }
-{
-    if r.d < 2 || r.d > 6 || r.l > r.d {
-        return false;
+impl CellRecord {
+    #[tactic(auto, using(crate::proofs::Checked::cell_told, crate::proofs::Checked::cell_parts))]
+    pub(crate) fn is_cell(&self) -> bool
+        ensures test { result ≡ is_cell self.now }
+        ensures means { IsTrue result ↔ (IsCell self.now) }
+    {
+        self.is_partition() && self.is_placed()
     }
-    are_labels(r) && r.labels[r.d as usize] == r.l + 1 && are_parts_full(r)
-}
 
-fn is_label(r: &CellRecord, j: usize) -> bool
-    requires place { j < 7 }
-    requires parts { r.now.l ≤ 6 }
-    ensures { result ≡ label_ok r.now j }
-{
-    let label = r.labels[j];
-    if j > r.d as usize {
-        return label == 0;
-    }
-    1 <= label && label <= r.l + 1
-}
-
-fn are_labels(r: &CellRecord) -> bool
-    requires { r.now.l ≤ 6 }
-    ensures { result ≡ all_below (label_ok r.now) 7 }
-{
-    for j in 0..7 {
-        if !is_label(r, j) {
+    fn is_partition(&self) -> bool
+        ensures test { result ≡ is_partition self.now }
+        ensures long { length self.now.base ≡ 6 }
+    {
+        if !(2..=6).contains(&self.d) || self.l > self.d {
             return false;
         }
+        self.are_labels()
+            && self.labels[usize::from(self.d)] == self.l + 1
+            && self.are_parts_full(self.l + 1)
     }
-    true
-}
 
-// Whether some number is in part p.
-fn is_part_full(r: &CellRecord, p: u8) -> bool
-    requires { r.now.d ≤ 6 }
-    ensures { result ≡ some_below (in_part r.now p) (r.now.d + 1) }
-{
-    for j in 0..r.d as usize + 1 {
-        if r.labels[j] == p {
-            return true;
+    fn are_labels(&self) -> bool
+        ensures { result ≡ all_below (label_ok self.now) 7 }
+    {
+        // Not a walk over the labels, since what a label must be depends on its place.
+        (0..7).all(|j| self.is_label(j))
+    }
+
+    fn is_label(&self, j: usize) -> bool
+        requires { j < 7 }
+        ensures { result ≡ label_ok self.now j }
+    {
+        let label = self.labels[j];
+        if j > usize::from(self.d) {
+            return label == 0;
         }
+        (1..=u16::from(self.l) + 1).contains(&u16::from(label))
     }
-    false
-}
 
-fn are_parts_full(r: &CellRecord) -> bool
-    requires axes { r.now.d ≤ 6 }
-    requires parts { r.now.l ≤ 6 }
-    ensures { result ≡ all_below (next_part_full r.now) (r.now.l + 1) }
-{
-    for p in 0..r.l + 1 {
-        if !is_part_full(r, p + 1) {
-            return false;
+    // Whether each of the parts 1 to n has a number.
+    fn are_parts_full(&self, n: u8) -> bool
+        requires { self.now.d ≤ 6 }
+        ensures { result ≡ all_below (next_part_full self.now) n }
+    {
+        let used = &self.labels[..=usize::from(self.d)];
+        (0..n).all(|p| used.contains(&(p + 1)))
+    }
+
+    // Whether all vertices lie in the world.
+    pub(crate) fn is_placed(&self) -> bool
+        requires partition { is_partition self.now ≡ true }
+        requires long { length self.now.base ≡ 6 }
+        ensures { result ≡ is_placed self.now }
+    {
+        // Not a walk over the base numbers, since what a base number must be depends on its place.
+        (0..6).all(|a| self.is_axis_ok(a))
+    }
+
+    fn is_axis_ok(&self, a: usize) -> bool
+        requires { a < 6 }
+        ensures { result ≡ axis_ok self.now a }
+    {
+        let base = self.base[a];
+        if a >= usize::from(self.d) {
+            return base == 0;
         }
+        is_in_world(base) && is_in_world(coordinate(base, self.labels[a], self.l))
     }
-    true
 }
 
-// Whether all vertices lie in the world.
-pub fn is_placed(r: &CellRecord) -> bool
-    requires partition { is_partition r.now ≡ true }
-    requires long { length r.now.base ≡ 6 }
-    ensures { result ≡ is_placed r.now }
+// The coordinate of vertex i along an axis with this base and label: one above the base once the part of the axis is passed.
+pub fn coordinate(base: i32, label: u8, i: u8) -> i32
+    requires { in_world base ≡ true }
+    ensures { result ≡ base +ℤ pos (if nat_le label i then 1 else 0) }
 {
-    are_axes_ok(r)
-}
-
-fn are_axes_ok(r: &CellRecord) -> bool
-    requires { r.now.d ≤ 6 }
-    ensures { result ≡ all_below (axis_ok r.now) 6 }
-{
-    for a in 0..6 {
-        if !is_axis_ok(r, a) {
-            return false;
-        }
-    }
-    true
-}
-
-fn is_axis_ok(r: &CellRecord, a: usize) -> bool
-    requires { a < 6 }
-    ensures { result ≡ axis_ok r.now a }
-{
-    let base = r.base[a];
-    if a >= r.d as usize {
-        return base == 0;
-    }
-    is_in_world(base) && is_in_world(coordinate(r, r.l, a))
-}
-
-// Coordinate a of vertex i: one above the base once the part of its axis is passed.
-pub fn coordinate(r: &CellRecord, i: u8, a: usize) -> i32
-    requires axis { a < 6 }
-    requires world { in_world (base_at r.now a) ≡ true }
-    ensures { result ≡ closed_coordinate r.now i a }
-{
-    if r.labels[a] <= i {
-        r.base[a] + 1
-    } else {
-        r.base[a]
-    }
+    if label <= i { base + 1 } else { base }
 }

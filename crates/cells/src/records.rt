@@ -1,10 +1,11 @@
 // A cell as it lies in a list: plain numbers, which may be no cell's.
-ghost use Rattle.std.specs.Prelude.{◌≡◌, Decides};
+ghost use Rattle.std.specs.Prelude.{◌≡◌, ◌↔◌, IsTrue};
 ghost use Rattle.std.specs.Cmp.{and_per, int_eq_equiv, nat_eq_equiv, on_per, partial_equiv_from_equiv};
 ghost use Rattle.std.specs.Cmp.Lexicographic.{lists_per};
 ghost use Rattle.cells.specs.Records.{record_eq};
 
-// Label j is the number, from 1, of the part that holds j. Places that d leaves unused hold 0.
+// Label j is the number, from 1, of the part that holds j. Places that d leaves unused hold 0; a list of records is memory of the
+// caller, so that all records have one size.
 #[derive(Clone, Copy, Eq, Debug)]
 pub struct CellRecord {
     pub d: u8,
@@ -13,6 +14,7 @@ pub struct CellRecord {
     pub labels: [u8; 7],
 }
 
+// Not derived, since a derived == has no clause `exact`.
 impl PartialEq for CellRecord {
     ghost eq = { record_eq };
 
@@ -21,22 +23,14 @@ impl PartialEq for CellRecord {
         (and_per (on_per (λ r. r.base) (lists_per (partial_equiv_from_equiv int_eq_equiv)))
         (on_per (λ r. r.labels) (lists_per (partial_equiv_from_equiv nat_eq_equiv))))) };
 
+    #[tactic(auto, using(crate::proofs::Recorded::told_by_labels, crate::proofs::Recorded::told_by_base))]
     fn eq(&self, other: &CellRecord) -> bool
         ensures tells { result ≡ record_eq self.now other.now }
-        ensures exact { Decides result (self.now ≡ other.now) }
+        ensures exact { IsTrue result ↔ (self.now ≡ other.now) }
     {
-        are_same(self, other)
+        // In brackets, so that each way out of the test rests on one comparison.
+        self.d == other.d
+            && self.l == other.l
+            && (self.base == other.base && self.labels == other.labels)
     }
-}
-
-fn are_same(x: &CellRecord, y: &CellRecord) -> bool
-    ensures tells { result ≡ record_eq x.now y.now }
-    ensures exact { Decides result (x.now ≡ y.now) }
-{
-    if x.d != y.d || x.l != y.l {
-        return false;
-    }
-    let bases = x.base == y.base;
-    let labels = x.labels == y.labels;
-    bases && labels
 }

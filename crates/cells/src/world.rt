@@ -9,5 +9,5 @@ pub const WORLD_HIGH: i32 = 10_000;
 pub fn is_in_world(x: i32) -> bool
     ensures { result ≡ in_world x }
 {
-    WORLD_LOW <= x && x <= WORLD_HIGH
+    (WORLD_LOW..=WORLD_HIGH).contains(&x)
 }

@@ -1,10 +1,12 @@
 -- The first fault at the vertices of a cell.
-use Rattle.std.proofs.Common.{◌≡◌, ℕ, zero, suc, ◌+◌, ◌-◌, ◌<◌, ◌≤◌, List, get_or, ℤ, pos, Some, None, Option, sym, refl, ap, ◌∙◌, subst, ap₂, inl, inr, add-one, arith}
+use Rattle.std.proofs.Common.{◌≡◌, ℕ, zero, suc, ◌+◌, ◌-◌, ◌<◌, ◌≤◌, List, [], length, get_or, ℤ, pos, Some, None, Option, sym, refl, ap, ◌∙◌, subst, ap₂, inl, inr, add-one, arith}
 use Rattle.std.proofs.lemmas.Bool.{cases_lt}
 use Rattle.grid.specs.Faults.{FaultNumbers}
 use Rattle.cells.specs.declared.records.CellRecord.{CellRecord}
 use Rattle.fields.specs.Fields.{fault, Meaning, Outcome, values}
-use Rattle.crossing.specs.Crossing.{first_fault, first_of, HasValues, outcome_at, RowIn, rows_in}
+use Rattle.crossing.specs.Crossing.{first_fault, first_of, HasValues, matrix_over, outcome_at, RowIn, rows_in}
+use Rattle.crossing.specs.Weights.{Agree, Matrix}
+use Rattle.crossing.proofs.Arranging.{matrix_value}
 
 pub row_present : (k : ℕ) (o : Outcome) (row : List ℤ) → RowIn k o row → HasValues o
 row_present k (values xs) row h = tt
@@ -45,9 +47,6 @@ module _ (m : Meaning) (c : CellRecord) where
   no_fault zero h = refl
   no_fault (suc n) h = ap (λ (x : Option FaultNumbers). first_of x (outcome_at m c n)) (no_fault n (λ i l. h i (omega arith))) ∙ values_first (outcome_at m c n) (h n (omega arith))
 
-  pub none_more : (n : ℕ) → first_fault m c n ≡ None → HasValues (outcome_at m c n) → first_fault m c (n + 1) ≡ None
-  none_more n e h = first_more n ∙ ap (λ (x : Option FaultNumbers). first_of x (outcome_at m c n)) e ∙ values_first (outcome_at m c n) h
-
   -- the first fault stays the first
   fault_stays : (f : FaultNumbers) (n e : ℕ) → first_fault m c n ≡ Some f → first_fault m c (e + n) ≡ Some f
   fault_stays f n zero h = rw (zero_plus n) h
@@ -63,3 +62,21 @@ module _ (m : Meaning) (c : CellRecord) where
   first_is f n l h e o =
       let d : (l - n) + (n + 1) ≡ l + 1 = omega arith in
       ap (first_fault m c) (sym d) ∙ fault_stays f (n + 1) (l - n) (first_more n ∙ ap₂ first_of e o)
+
+-- Rows at the vertices of a cell, asked in order up to the first fault: the first n of four are the field's.
+pub record RowsIn (m : Meaning) (c : CellRecord) (rows : Matrix) (n : ℕ) : Type 0 where
+  pub long : length rows ≡ 4
+  pub here : (i : ℕ) → i < n → i ≤ c.l → RowIn c.l (outcome_at m c i) (get_or rows i [])
+
+module _ {m : Meaning} {c : CellRecord} {rows : Matrix} {n : ℕ} (a : RowsIn m c rows n) where
+  present_below : (e : ℕ) → e ≤ n → e ≤ c.l + 1 → first_fault m c e ≡ None
+  present_below e h l = no_fault m c e (λ i g. row_present c.l (outcome_at m c i) (get_or rows i []) (a.here i (omega arith) (omega arith)))
+
+  pub rows_first : (f : FaultNumbers) → n ≤ c.l → outcome_at m c n ≡ fault f → first_fault m c (c.l + 1) ≡ Some f
+  rows_first f h o = first_is m c f n c.l h (present_below n (omega arith) (omega arith)) o
+
+  pub rows_clear : c.l < n → first_fault m c (c.l + 1) ≡ None
+  rows_clear h = present_below (c.l + 1) (omega arith) (omega arith)
+
+  pub rows_agree : c.l < n → Agree c.l rows (matrix_over m c)
+  rows_agree h i r l g = row_values c.l (outcome_at m c i) (get_or rows i []) (a.here i (omega arith) l) r g ∙ sym (matrix_value m c i r l)

@@ -1,5 +1,5 @@
 -- The class of a cell over a field.
-use Rattle.std.specs.Prelude.{◌≡◌, ℕ, zero, suc, ◌+◌, ◌<◌, ◌≤◌, true, cond, List, [], ℤ, pos, Some, None, Ok, Err, Option, Result, slice_index_or}
+use Rattle.std.specs.Prelude.{◌≡◌, ℕ, zero, suc, ◌+◌, ◌<◌, ◌≤◌, true, List, [], ℤ, pos, Some, None, Ok, Err, Option, Result, slice_index_or, if◌then◌else◌}
 use Rattle.grid.specs.Below.{table}
 use Rattle.grid.specs.Faults.{FaultNumbers, fault_numbers}
 use Rattle.grid.specs.Refusals.{refusal, RefusalNumbers}
@@ -51,6 +51,10 @@ abbrev pub first_fault : Meaning → CellRecord → ℕ → Option FaultNumbers
 first_fault m r zero = None
 first_fault m r (suc n) = first_of (first_fault m r n) (outcome_at m r n)
 
+-- the first fault at the vertices of the cell
+abbrev pub fault_among_vertices : Meaning → CellRecord → Option FaultNumbers
+fault_among_vertices m r = first_fault m r (r.l + 1)
+
 abbrev pub faulty : FaultNumbers → RefusalNumbers
 faulty f = record { number = 9; fault = Some f }
 
@@ -63,6 +67,10 @@ abbrev pub unless_fault : {X : Type 0} → Option FaultNumbers → X → Result 
 unless_fault (Some f) x = Err (faulty f)
 unless_fault None x = Ok x
 
+-- of a cell that fits: 9 with the first fault at its vertices, and else the class
+abbrev pub class_if_present : Meaning → CellRecord → Result Class RefusalNumbers
+class_if_present m r = unless_fault (fault_among_vertices m r) (class_of r.l (matrix_over m r))
+
 -- 8 if the cell does not fit, then 9 with the first fault, and else the class
 abbrev pub test_answer : Meaning → CellRecord → Result Class RefusalNumbers
-test_answer m r = cond (fits_frame m.frame r) (unless_fault (first_fault m r (r.l + 1)) (class_of r.l (matrix_over m r))) (Err (refusal 8))
+test_answer m r = if fits_frame m.frame r then class_if_present m r else Err (refusal 8)

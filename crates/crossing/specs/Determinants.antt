@@ -1,5 +1,5 @@
 -- The class as it is computed: by the signs of the determinants that arise when one vertex is left out.
-use Rattle.std.specs.Prelude.{ℕ, zero, suc, ◌+◌, ◌*◌, ◌%◌, Bool, cond, ◌&&◌, List, length, ℤ, pos, ◌+ℤ◌, ◌-ℤ◌, ◌*ℤ◌, neg_ℤ, Some, None, Option, ◌==◌, int_le, int_lt, nat_le, nat_lt, slice_index_or}
+use Rattle.std.specs.Prelude.{ℕ, zero, suc, ◌+◌, ◌*◌, ◌%◌, Bool, ◌&&◌, List, length, ℤ, pos, ◌+ℤ◌, ◌-ℤ◌, ◌*ℤ◌, neg_ℤ, Some, None, Option, ◌==◌, int_le, int_lt, nat_le, nat_lt, slice_index_or, if◌then◌else◌}
 use Rattle.grid.specs.Below.{some_below, table}
 use Rattle.crossing.specs.Weights.{Matrix, value}
 use Rattle.crossing.specs.declared.classes.Class.{Class}
@@ -26,11 +26,11 @@ determinant (suc (suc (suc k))) v = minor3 v 0 1 2
 
 -- the numbers without i, in order
 abbrev pub passing : ℕ → ℕ → ℕ
-passing i j = cond (nat_lt j i) j (j + 1)
+passing i j = if nat_lt j i then j else j + 1
 
 -- as it is at even places, and negated at odd ones
 abbrev pub alternating : ℕ → ℤ → ℤ
-alternating i x = cond (i % 2 == 0) x (neg_ℤ x)
+alternating i x = if i % 2 == 0 then x else neg_ℤ x
 
 -- the determinant without vertex i, with alternating sign
 abbrev pub signed_determinant : ℕ → (ℕ → ℕ → ℤ) → ℕ → ℤ
@@ -51,7 +51,7 @@ signs_below f n = record { above = some_below (is_above f) n; below = some_below
 
 -- both signs: clear; else a zero: degenerate; else one sign throughout: crossed
 abbrev pub by_signs : Signs → Class
-by_signs s = cond (s.above && s.below) Clear (cond s.level Degenerate Crossed)
+by_signs s = if s.above && s.below then Clear else (if s.level then Degenerate else Crossed)
 
 abbrev pub class_of : ℕ → Matrix → Class
 class_of k v = by_signs (signs_below (signed_determinant k (value v)) (k + 1))
@@ -65,4 +65,4 @@ abbrev pub is_shaped : ℕ → List ℤ → Bool
 is_shaped k xs = nat_le 1 k && nat_le k 3 && length xs == k * (k + 1)
 
 abbrev pub class_answer : ℕ → List ℤ → Option Class
-class_answer k xs = cond (is_shaped k xs) (Some (class_of k (by_vertex k xs))) None
+class_answer k xs = if is_shaped k xs then Some (class_of k (by_vertex k xs)) else None

@@ -1,11 +1,12 @@
 // Cells in the box of a field.
-ghost use Rattle.std.specs.Prelude.{◌≡◌, ◌+◌, ◌≤◌};
-ghost use Rattle.grid.specs.Below.{all_below};
+ghost use Rattle.std.specs.Prelude.{◌≡◌, ◌+◌};
 ghost use Rattle.grid.specs.Frames.{frame_numbers, sides_of};
-ghost use Rattle.crossing.specs.Boxes.{fits_frame, lies_in, vertex_in};
+ghost use Rattle.crossing.specs.Boxes.{fits_frame, lies_in};
 
 use cells::Cell;
 use grid::Frame;
+
+// Functions, not methods: frames and cells belong to crates below.
 
 // Whether the cell fits a field with this frame: d agrees, its dimension is k, and it lies in the box.
 pub fn fits(frame: &Frame, cell: &Cell) -> bool
@@ -18,20 +19,11 @@ pub fn fits(frame: &Frame, cell: &Cell) -> bool
 pub fn lies_in(frame: &Frame, cell: &Cell) -> bool
     ensures { result ≡ lies_in (sides_of frame.now) cell.now.plain }
 {
-    are_vertices_in(frame, cell, u32::from(cell.dimension()) + 1)
+    (0..vertex_count(cell)).all(|i| cell.vertex(i).is_some_and(|vertex| frame.contains(&vertex)))
 }
 
-fn are_vertices_in(frame: &Frame, cell: &Cell, n: u32) -> bool
-    requires { n ≤ cell.now.plain.l + 1 }
-    ensures { result ≡ all_below (vertex_in (sides_of frame.now) cell.now.plain) n }
+fn vertex_count(cell: &Cell) -> u32
+    ensures { result ≡ cell.now.plain.l + 1 }
 {
-    for i in 0..n {
-        let Some(vertex) = cell.vertex(i) else {
-            unreachable()
-        };
-        if !frame.contains(&vertex) {
-            return false;
-        }
-    }
-    true
+    u32::from(cell.dimension()) + 1
 }

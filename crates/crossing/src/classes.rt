@@ -11,6 +11,7 @@ pub enum Class {
     Degenerate,
 }
 
+// Written out, since no derive says which text it prints.
 impl fmt::Display for Class {
     ghost output = { λ c. Some (class_text c) };
 

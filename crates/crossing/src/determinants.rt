@@ -1,19 +1,32 @@
 // The determinants of a matrix without one vertex.
-ghost use Rattle.std.specs.Prelude.{◌≡◌, ℕ, ◌+◌, ◌*◌, ◌^◌, ◌<◌, ◌≤◌, [], ◌∷◌, pos, ◌*ℤ◌, slice_index_or, unsigned_abs};
+ghost use Rattle.std.specs.Prelude.{◌≡◌, ◌^◌, ◌<◌, ◌≤◌, [], ◌∷◌, ◌*ℤ◌, unsigned_abs};
+ghost use Rattle.grid.specs.Below.{table};
 ghost use Rattle.crossing.specs.Determinants.{alternating, determinant as determinant_of, minor as minor_of, minor3 as minor3_of, passing as passing_of, signed_determinant};
 ghost use Rattle.crossing.specs.Weights.{value};
 
-// Entry i, for i from 0 to k, is the determinant without vertex i, with alternating sign.
-pub(crate) fn signed_determinants(k: u8, at: &[[i16; 3]; 4]) -> [i64; 4]
-    requires k_low { 1 ≤ k }
-    requires k_high { k ≤ 3 }
-    ensures { (i : ℕ) → i ≤ k → slice_index_or result i (pos 0) ≡ signed_determinant k (value at.now) i }
-{
-    let mut signed = [0; 4];
-    for i in 0..k as usize + 1 {
-        signed[i] = alternated(i, without(k, at, i));
+use crate::matrices::VertexValues;
+
+impl VertexValues {
+    // Entry i is the determinant without vertex i, with alternating sign. Those past k are not read.
+    pub(crate) fn signed_determinants(&self) -> [i64; 4]
+        ensures { result ≡ table 4 (signed_determinant self.now.k (value self.now.at)) }
+    {
+        std::array::from_fn(|i| alternated(i, self.without(i)))
     }
-    signed
+
+    // The determinant of the k rows at all vertices but vertex i.
+    fn without(&self, i: usize) -> i64
+        requires { i < 4 }
+        ensures is { result ≡ determinant_of self.now.k (λ j. value self.now.at (passing_of i j)) }
+        ensures small { unsigned_abs result ≤ 2 ^ 48 }
+    {
+        let at = &self.at;
+        match self.k {
+            1 => i64::from(at[passing(i, 0)][0]),
+            2 => minor(at[passing(i, 0)], at[passing(i, 1)], 0, 1),
+            _ => minor3(at[passing(i, 0)], at[passing(i, 1)], at[passing(i, 2)]),
+        }
+    }
 }
 
 fn alternated(i: usize, x: i64) -> i64
@@ -21,21 +34,6 @@ fn alternated(i: usize, x: i64) -> i64
     ensures { result ≡ alternating i x }
 {
     if i % 2 == 0 { x } else { -x }
-}
-
-// The determinant of the k rows at all vertices but vertex i.
-fn without(k: u8, at: &[[i16; 3]; 4], i: usize) -> i64
-    requires k_low { 1 ≤ k }
-    requires k_high { k ≤ 3 }
-    requires vertex { i < 4 }
-    ensures is { result ≡ determinant_of k (λ j. value at.now (passing_of i j)) }
-    ensures small { unsigned_abs result ≤ 2 ^ 48 }
-{
-    match k {
-        1 => i64::from(at[passing(i, 0)][0]),
-        2 => minor(at[passing(i, 0)], at[passing(i, 1)], 0, 1),
-        _ => minor3(at[passing(i, 0)], at[passing(i, 1)], at[passing(i, 2)]),
-    }
 }
 
 // The numbers without i, in order.

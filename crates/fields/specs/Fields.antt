@@ -1,5 +1,5 @@
 -- What a field means: its numbers, and an outcome for each vertex of its box.
-use Rattle.std.specs.Prelude.{◌≡◌, ℕ, ◌≤◌, true, cond, List, length, ℤ, Some, None, Ok, Err, Option, Result}
+use Rattle.std.specs.Prelude.{◌≡◌, ℕ, ◌≤◌, true, if◌then◌else◌, List, length, ℤ, Some, None, Ok, Err, Option, Result}
 use Rattle.grid.specs.Boxes.{in_box}
 use Rattle.grid.specs.Faults.{FaultNumbers, fault_numbers}
 use Rattle.grid.specs.Frames.{FrameNumbers, is_frame}
@@ -26,7 +26,7 @@ fault_of c p h = record { cause = c; place = p; height = h }
 
 -- what a field answers at any vertex: outside its box the fault outside, place 0, with its own height
 abbrev pub answer : Meaning → List ℤ → Outcome
-answer m v = cond (in_box (sides_in m) v) (m.outcome v) (fault (fault_of 1 0 m.height))
+answer m v = if in_box (sides_in m) v then m.outcome v else fault (fault_of 1 0 m.height)
 
 -- an answer of the code as an outcome
 abbrev pub told : Result Values Fault → Outcome

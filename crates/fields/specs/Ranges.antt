@@ -1,5 +1,5 @@
 -- The numbers of each field's meaning are in their ranges.
-use Rattle.std.specs.Prelude.{◌≡◌, ℕ, ◌+◌, ◌*◌, ◌≤◌, Bool, true, false, cond, List, length, get_or, ℤ, pos, ◌-ℤ◌, Some, None, nat_le, slice_index_or, refl}
+use Rattle.std.specs.Prelude.{◌≡◌, ℕ, ◌+◌, ◌*◌, ◌≤◌, Bool, true, false, if◌then◌else◌, List, length, get_or, ℤ, pos, ◌-ℤ◌, Some, None, nat_le, slice_index_or, refl}
 use Rattle.std.proofs.Common.{◌∙◌, arith}
 use Rattle.grid.specs.Boxes.{in_box, place_number}
 use Rattle.grid.specs.Faults.{FaultNumbers}
@@ -18,14 +18,14 @@ use Rattle.fields.specs.declared.quadrics.Row.{Row}
 sound_graded : (k : ℕ) (xs : List ℤ) (f : FaultNumbers) → length xs ≡ k → 1 ≤ f.cause → f.cause ≤ 3 → Sound k (or_fault (graded xs) f)
 sound_graded k xs f long low high = go (all_on_scale xs) refl
   where
-    go : (b : Bool) → all_on_scale xs ≡ b → Sound k (or_fault (cond b (Some xs) None) f)
+    go : (b : Bool) → all_on_scale xs ≡ b → Sound k (or_fault (if b then Some xs else None) f)
     go true e = (long, e)
     go false e = (low, high)
 
 sound_sampled : (k m : ℕ) (xs : List ℤ) (f : FaultNumbers) → 1 ≤ f.cause → f.cause ≤ 3 → Sound k (or_fault (sampled k m xs) f)
 sound_sampled k m xs f low high = go (nat_le (k * m + k) (length xs))
   where
-    go : (b : Bool) → Sound k (or_fault (cond b (graded (samples_from (k * m) k xs)) None) f)
+    go : (b : Bool) → Sound k (or_fault (if b then graded (samples_from (k * m) k xs) else None) f)
     go true = sound_graded k (samples_from (k * m) k xs) f (length-table k (λ r. get_or xs (k * m + r) (pos 0))) low high
     go false = (low, high)
 
@@ -61,6 +61,6 @@ window_good m own cs g = record {
   sound = λ v i. go (plus_corner v cs) (in_box (sides_in m) (plus_corner v cs)) refl;
 }
   where
-    go : (w : List ℤ) (b : Bool) → in_box (sides_in m) w ≡ b → Sound m.frame.k (cond b (m.outcome w) (fault (fault_of 1 0 m.height)))
+    go : (w : List ℤ) (b : Bool) → in_box (sides_in m) w ≡ b → Sound m.frame.k (if b then m.outcome w else fault (fault_of 1 0 m.height))
     go w true e = g.sound w e
     go w false e = (omega arith, omega arith)

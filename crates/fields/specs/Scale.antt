@@ -1,5 +1,5 @@
 -- The scale: the values of a field are -32,767 to 32,767.
-use Rattle.std.specs.Prelude.{ℕ, Bool, cond, ◌&&◌, List, length, ℤ, pos, negsuc, Some, None, Option, int_le, slice_index_or}
+use Rattle.std.specs.Prelude.{ℕ, Bool, if◌then◌else◌, ◌&&◌, List, length, ℤ, pos, negsuc, Some, None, Option, int_le, slice_index_or}
 use Rattle.grid.specs.Below.{all_below}
 
 abbrev pub on_scale : ℤ → Bool
@@ -13,4 +13,4 @@ all_on_scale xs = all_below (row_ok xs) (length xs)
 
 -- numbers are values if each is on the scale
 abbrev pub graded : List ℤ → Option (List ℤ)
-graded xs = cond (all_on_scale xs) (Some xs) None
+graded xs = if all_on_scale xs then Some xs else None

@@ -1,5 +1,5 @@
 // A layer that subtracts a level from each row.
-ghost use Rattle.std.specs.Prelude.{◌≡◌, ◌≤◌, length, take, ◌-ℤ◌};
+ghost use Rattle.std.specs.Prelude.{◌≡◌, ◌-ℤ◌};
 ghost use Rattle.std.specs.Option.{option_map};
 ghost use Rattle.fields.specs.Levels.{height_over, less_levels, level_meaning};
 ghost use Rattle.fields.specs.Ranges.{level_good};
@@ -10,6 +10,7 @@ use crate::asking::{Field, outside};
 use crate::values::Values;
 use grid::{Cause, Fault, Frame, Vertex};
 
+// As many levels as k can be, since the library has no heap.
 #[derive(Drop)]
 pub struct Level<F> {
     below: F,
@@ -39,20 +40,16 @@ impl<F: Field> Field for Level<F> {
     }
 
     fn at(&self, vertex: &Vertex) -> Result<Values, Fault> {
-        let height = height_over(self.below.height());
-        let frame = self.below.frame();
-        let Some(place) = frame.number(vertex) else {
-            return Err(outside(height));
-        };
+        let place = self
+            .frame()
+            .number(vertex)
+            .ok_or_else(|| outside(self.height()))?;
         let below = self.below.at(vertex)?;
-        let Some(values) = less(&below, &self.levels) else {
-            return Err(Fault {
-                cause: Cause::OffScale,
-                place,
-                height,
-            });
-        };
-        Ok(values)
+        minus_levels(&below, &self.levels).ok_or_else(|| Fault {
+            cause: Cause::OffScale,
+            place,
+            height: self.height(),
+        })
     }
 }
 
@@ -64,24 +61,11 @@ pub fn height_over(height: u8) -> u8
 }
 
 // The values less the levels, if each stays on the scale.
-fn less(values: &Values, levels: &[i16; 3]) -> Option<Values>
+fn minus_levels(values: &Values, levels: &[i16; 3]) -> Option<Values>
     ensures { option_map rows_of result ≡ graded (less_levels (rows_of values.now) levels.now) }
 {
     let rows = values.rows();
-    let lower = lowered(rows, levels);
-    Values::new(&lower[0..rows.len()])
-}
-
-// Up to three rows less the levels.
-fn lowered(rows: &[i16], levels: &[i16; 3]) -> [i64; 3]
-    requires { length rows.now ≤ 3 }
-    ensures { take (length rows.now) result ≡ less_levels rows.now levels.now }
-{
-    let mut lower = [0; 3];
-    for r in 0..rows.len() {
-        lower[r] = minus(rows[r], levels[r]);
-    }
-    lower
+    Values::from_fn(rows.len() as u8, |r| minus(rows[r], levels[r]))
 }
 
 // Two numbers of 16 bits have their difference in 64.

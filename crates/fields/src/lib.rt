@@ -3,6 +3,7 @@
 
 mod alike;
 mod asking;
+mod inside;
 mod lent;
 mod levels;
 mod quadrics;

@@ -1,5 +1,5 @@
 // A field whose rows are quadrics of the coordinates.
-ghost use Rattle.std.specs.Prelude.{◌≡◌, ℕ, ◌^◌, ◌<◌, ◌≤◌, true, length, take, pos, ◌*ℤ◌, slice_index_or, unsigned_abs};
+ghost use Rattle.std.specs.Prelude.{◌≡◌, ◌^◌, ◌≤◌, true, ◌*ℤ◌, unsigned_abs};
 ghost use Rattle.std.specs.Option.{option_map};
 ghost use Rattle.grid.specs.Boxes.{in_box, on_axis};
 ghost use Rattle.grid.specs.Frames.{frame_numbers, sides_of};
@@ -10,10 +10,12 @@ ghost use Rattle.fields.specs.Scale.{graded};
 ghost use Rattle.fields.specs.Values.{rows_of};
 
 use crate::asking::{Field, outside};
+use crate::inside::Inside;
 use crate::values::Values;
 use grid::{Cause, Fault, Frame, Vertex};
 
-// The coefficients of one row: its constant, and for each axis those of x and of x * x.
+// The coefficients of one row: its constant, and for each axis those of x and of x * x. There are as many as d can be, and as many
+// rows as k can be, since the library has no heap.
 #[derive(Clone, Copy)]
 pub struct Row {
     pub constant: i16,
@@ -34,6 +36,15 @@ impl Quadric {
     {
         Quadric { frame, rows }
     }
+
+    // The k rows at a vertex of the box, if each is on the scale.
+    fn evaluated(&self, vertex: &Vertex) -> Option<Values>
+        requires { in_box (sides_of self.now.frame) (coordinates_of vertex.now) ≡ true }
+        ensures { option_map rows_of result ≡ graded (rows_at self.now.frame.k self.now.rows (coordinates_of vertex.now)) }
+    {
+        let inside = Inside::new(&self.frame, vertex);
+        Values::from_fn(self.frame.k(), |r| inside.row(&self.rows[r]))
+    }
 }
 
 impl Field for Quadric {
@@ -50,53 +61,29 @@ impl Field for Quadric {
     }
 
     fn at(&self, vertex: &Vertex) -> Result<Values, Fault> {
-        let Some(place) = self.frame.number(vertex) else {
-            return Err(outside(0));
-        };
-        let Some(values) = evaluated(&self.rows, &self.frame, vertex) else {
-            return Err(Fault {
-                cause: Cause::OffScale,
-                place,
-                height: 0,
-            });
-        };
-        Ok(values)
+        let place = self
+            .frame
+            .number(vertex)
+            .ok_or_else(|| outside(self.height()))?;
+        self.evaluated(vertex).ok_or_else(|| Fault {
+            cause: Cause::OffScale,
+            place,
+            height: self.height(),
+        })
     }
 }
 
-// The k rows at a vertex of the box, if each is on the scale.
-fn evaluated(rows: &[Row; 3], frame: &Frame, vertex: &Vertex) -> Option<Values>
-    requires { in_box (sides_of frame.now) (coordinates_of vertex.now) ≡ true }
-    ensures { option_map rows_of result ≡ graded (rows_at frame.now.k rows.now (coordinates_of vertex.now)) }
-{
-    let k = frame.k();
-    let sums = rows_at(rows, k, vertex.coordinates());
-    Values::new(&sums[0..k as usize])
-}
-
-fn rows_at(rows: &[Row; 3], k: u8, at: &[i32]) -> [i64; 3]
-    requires k_high { k ≤ 3 }
-    requires axes { length at.now ≤ 6 }
-    requires on_axes { (j : ℕ) → j < length at.now → on_axis 1000 (slice_index_or at.now j (pos 0)) ≡ true }
-    ensures { take k result ≡ rows_at k rows.now at.now }
-{
-    let mut sums = [0; 3];
-    for r in 0..k as usize {
-        sums[r] = row_at(&rows[r], at);
+impl<'a> Inside<'a> {
+    // A row's value there.
+    fn row(&self, row: &Row) -> i64
+        ensures { result ≡ row_at self.now.at.now row.now }
+    {
+        let mut sum = i64::from(row.constant);
+        for ((x, a), b) in self.at.iter().zip(&row.linear).zip(&row.square) {
+            sum += axis_part(*a, *b, *x);
+        }
+        sum
     }
-    sums
-}
-
-fn row_at(row: &Row, at: &[i32]) -> i64
-    requires axes { length at.now ≤ 6 }
-    requires on_axes { (j : ℕ) → j < length at.now → on_axis 1000 (slice_index_or at.now j (pos 0)) ≡ true }
-    ensures { result ≡ row_at at.now row.now }
-{
-    let mut sum = row.constant as i64;
-    for j in 0..at.len() {
-        sum += axis_part(row.linear[j], row.square[j], at[j]);
-    }
-    sum
 }
 
 // What one axis adds to a row.
@@ -105,13 +92,13 @@ fn axis_part(a: i16, b: i16, x: i32) -> i64
     ensures is { result ≡ axis_part a b x }
     ensures small { unsigned_abs result ≤ 2 ^ 35 }
 {
-    a as i64 * x as i64 + b as i64 * square(x)
+    i64::from(a) * i64::from(x) + i64::from(b) * square(x)
 }
 
 fn square(x: i32) -> i64
     requires { on_axis 1000 x ≡ true }
     ensures { result ≡ x *ℤ x }
 {
-    let x = x as i64;
+    let x = i64::from(x);
     x * x
 }

@@ -1,9 +1,9 @@
 // A field of samples that the caller lends.
-ghost use Rattle.std.specs.Prelude.{◌≡◌, ◌+◌, ◌^◌, ◌<◌, ◌≤◌, length, take};
+ghost use Rattle.std.specs.Prelude.{◌≡◌, ◌^◌, ◌<◌};
 ghost use Rattle.std.specs.Option.{option_map};
 ghost use Rattle.grid.specs.Frames.{frame_numbers};
 ghost use Rattle.fields.specs.Ranges.{table_good};
-ghost use Rattle.fields.specs.Tables.{sampled as sampled_rows, samples_from, table_meaning};
+ghost use Rattle.fields.specs.Tables.{sampled, table_meaning};
 ghost use Rattle.fields.specs.Values.{rows_of};
 
 use crate::asking::{Field, outside};
@@ -23,6 +23,17 @@ impl<'a> Table<'a> {
     {
         Table { frame, samples }
     }
+
+    // The k samples of vertex number m, if all are there and on the scale.
+    fn sampled(&self, m: u64) -> Option<Values>
+        requires { m < 2 ^ 60 }
+        ensures { option_map rows_of result ≡ sampled self.now.frame.k m self.now.samples.now }
+    {
+        let k = usize::from(self.frame.k());
+        let first = k * m as usize;
+        let samples = self.samples.get(first..first + k)?;
+        Values::from_fn(self.frame.k(), |r| i64::from(samples[r]))
+    }
 }
 
 impl<'a> Field for Table<'a> {
@@ -38,45 +49,15 @@ impl<'a> Field for Table<'a> {
         0
     }
 
+    // It ends as at a quadric and a level, but for the cause and what is computed: one function of the three would be no shorter.
     fn at(&self, vertex: &Vertex) -> Result<Values, Fault> {
-        let Some(place) = self.frame.number(vertex) else {
-            return Err(outside(0));
-        };
-        let Some(values) = sampled(self.samples, self.frame.k(), place) else {
-            return Err(Fault {
-                cause: Cause::Blank,
-                place,
-                height: 0,
-            });
-        };
-        Ok(values)
+        // Asked first: it is a constant here, and of a closure that holds a table the check knows nothing.
+        let height = self.height();
+        let place = self.frame.number(vertex).ok_or_else(|| outside(height))?;
+        self.sampled(place).ok_or_else(|| Fault {
+            cause: Cause::Blank,
+            place,
+            height,
+        })
     }
-}
-
-// The k samples of vertex number m, if all are there and on the scale.
-fn sampled(samples: &[i16], k: u8, m: u64) -> Option<Values>
-    requires k_low { 1 ≤ k }
-    requires k_high { k ≤ 3 }
-    requires place { m < 2 ^ 60 }
-    ensures { option_map rows_of result ≡ sampled_rows k m samples.now }
-{
-    let first = k as usize * m as usize;
-    if first + k as usize > samples.len() {
-        return None;
-    }
-    let rows = samples_from(samples, first, k);
-    Values::new(&rows[0..k as usize])
-}
-
-// The k samples from a position on.
-fn samples_from(samples: &[i16], first: usize, k: u8) -> [i64; 3]
-    requires k_high { k ≤ 3 }
-    requires within { first + k ≤ length samples.now }
-    ensures { take k result ≡ samples_from first k samples.now }
-{
-    let mut rows = [0; 3];
-    for r in 0..k as usize {
-        rows[r] = samples[first + r] as i64;
-    }
-    rows
 }

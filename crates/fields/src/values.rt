@@ -4,7 +4,7 @@ mod calls;
 ghost use Rattle.std.specs.Prelude.{◌≡◌, ◌≤◌, true, length, take};
 ghost use Rattle.fields.specs.Scale.{all_on_scale};
 
-// One value for each of k rows, each on the scale.
+// One value for each of k rows, each on the scale. The array is as long as k can be, since the library has no heap.
 #[derive(Clone, Copy, Debug)]
 pub struct Values {
     k: u8,

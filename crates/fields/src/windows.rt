@@ -1,17 +1,19 @@
 // A layer that shows a part of a field in a box of its own.
-ghost use Rattle.std.specs.Prelude.{◌≡◌, ℕ, ◌<◌, ◌≤◌, true, length, take, pos, ◌+ℤ◌, if◌then◌else◌, Some, None, slice_index, slice_index_or};
+ghost use Rattle.std.specs.Prelude.{◌≡◌, ◌<◌, pos, ◌+ℤ◌, if◌then◌else◌, Some, None, slice_index, slice_index_or};
 ghost use Rattle.std.specs.Option.{option_map};
-ghost use Rattle.grid.specs.Boxes.{in_box, on_axis};
+ghost use Rattle.grid.specs.Boxes.{in_box};
 ghost use Rattle.grid.specs.Frames.{sides_of};
-ghost use Rattle.grid.specs.Vertices.{coordinates_of};
+ghost use Rattle.grid.specs.Vertices.{coordinates_of, vertex_answer};
 ghost use Rattle.fields.specs.Ranges.{window_good};
 ghost use Rattle.fields.specs.Windows.{plus_corner, window_meaning};
 
 use crate::asking::{Field, outside};
+use crate::inside::Inside;
 use crate::levels::height_over;
 use crate::values::Values;
 use grid::{Fault, Frame, Vertex};
 
+// As many numbers of the corner as d can be, since the library has no heap.
 #[derive(Drop)]
 pub struct Window<F> {
     below: F,
@@ -42,10 +44,8 @@ impl<F: Field> Field for Window<F> {
     }
 
     fn at(&self, vertex: &Vertex) -> Result<Values, Fault> {
-        let frame = self.below.frame().with_sides_of(&self.own);
-        let Some(below) = moved(&frame, vertex, &self.corner) else {
-            return Err(outside(height_over(self.below.height())));
-        };
+        let moved = moved(&self.frame(), vertex, &self.corner);
+        let below = moved.ok_or_else(|| outside(self.height()))?;
         self.below.at(&below)
     }
 }
@@ -57,34 +57,24 @@ fn moved(frame: &Frame, vertex: &Vertex, corner: &[u16; 6]) -> Option<Vertex>
     if !frame.contains(vertex) {
         return None;
     }
-    let at = vertex.coordinates();
-    let sums = plus_corner(at, corner);
-    Vertex::new(&sums[0..at.len()])
+    Inside::new(frame, vertex).plus(corner)
 }
 
-fn plus_corner(at: &[i32], corner: &[u16; 6]) -> [i32; 6]
-    requires axes { length at.now ≤ 6 }
-    requires on_axes { (j : ℕ) → j < length at.now → on_axis 1000 (slice_index_or at.now j (pos 0)) ≡ true }
-    ensures { take (length at.now) result ≡ plus_corner at.now corner.now }
-{
-    let mut sums = [0; 6];
-    for j in 0..at.len() {
-        sums[j] = plus(at[j], corner_at(corner, j));
+impl<'a> Inside<'a> {
+    // The vertex plus the corner: six sums, of which the coordinates' count.
+    fn plus(&self, corner: &[u16; 6]) -> Option<Vertex>
+        ensures { option_map coordinates_of result ≡ vertex_answer (plus_corner self.now.at.now corner.now) }
+    {
+        let sums: [i32; 6] = std::array::from_fn(|j| self.sum(corner, j));
+        Vertex::new(&sums[..self.at.len()])
     }
-    sums
-}
 
-// A coordinate on an axis plus one of a corner.
-fn plus(x: i32, c: u16) -> i32
-    requires { on_axis 1000 x ≡ true }
-    ensures { result ≡ x +ℤ pos c }
-{
-    x + i32::from(c)
-}
-
-fn corner_at(corner: &[u16; 6], axis: usize) -> u16
-    requires { axis < 6 }
-    ensures { result ≡ slice_index corner.now axis }
-{
-    corner[axis]
+    // A coordinate, or 0 past the last, plus the corner's number.
+    fn sum(&self, corner: &[u16; 6], axis: usize) -> i32
+        requires { axis < 6 }
+        ensures { result ≡ slice_index_or self.now.at.now axis (pos 0) +ℤ pos (slice_index corner.now axis) }
+    {
+        let x = self.at.get(axis).copied().unwrap_or(0);
+        x + i32::from(corner[axis])
+    }
 }

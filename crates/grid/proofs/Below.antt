@@ -1,28 +1,10 @@
 -- Tests of the numbers below a bound say what they say of each number; a table holds its function at each place.
-use Rattle.std.proofs.Common.{◌≡◌, ℕ, ◌+◌, ◌<◌, ◌≤◌, Bool, true, false, cond, ◌&&◌, ◌||◌, ltb, List, length, get_or, take, refl, ap, ◌∙◌, zero-add, add-one, arith}
+use Rattle.std.proofs.Common.{◌≡◌, ℕ, ◌<◌, ◌≤◌, Bool, true, cond, ltb, List, length, get_or, take, refl, ap, ◌∙◌, zero-add, arith}
 use Rattle.std.proofs.lemmas.List.FromFn.{fill_by_all, length-map-range_with_len, get_or-map-range_with_len}
 use Rattle.std.proofs.lemmas.List.{get_or_past, get_or-take, length-take-le}
 use Rattle.std.proofs.lemmas.Bool.{lt-ltb}
 use Rattle.std.proofs.lemmas.Bool.Decides.{Decides-below_and, Decides-below_or}
 use Rattle.grid.specs.Below.{all_below, some_below, table}
-
--- a loop that tests each number, and one that looks for a number
-
-pub all_none : (p : ℕ → Bool) → all_below p 0 ≡ true
-unfolding all_below
-all_none p = refl
-
-pub all_more : (p : ℕ → Bool) (n : ℕ) → all_below p (n + 1) ≡ (p n && all_below p n)
-unfolding all_below
-all_more p n = rw add-one refl
-
-pub some_none : (p : ℕ → Bool) → some_below p 0 ≡ false
-unfolding some_below
-some_none p = refl
-
-pub some_more : (p : ℕ → Bool) (n : ℕ) → some_below p (n + 1) ≡ (p n || some_below p n)
-unfolding some_below
-some_more p n = rw add-one refl
 
 -- what the tests say, both ways
 
@@ -41,14 +23,6 @@ some_at p n = (Decides-below_or p (λ k. p k ≡ true) (some_below p) (λ k. (λ
 pub some_from : (p : ℕ → Bool) (n k : ℕ) → k < n → p k ≡ true → some_below p n ≡ true
 unfolding some_below
 some_from p n k h e = (Decides-below_or p (λ k. p k ≡ true) (some_below p) (λ k. (λ h. h, λ h. h)) refl (λ _. refl) n).1 (k, h, e)
-
--- one number that fails the test is enough
-pub all_false : (p : ℕ → Bool) (n k : ℕ) → k < n → p k ≡ false → all_below p n ≡ false
-all_false p n k h e = go (all_below p n) refl
-  where
-    go : (b : Bool) → all_below p n ≡ b → b ≡ false
-    go false _ = refl
-    go true f = let g = all_at p n f k h in let z : true ≡ false = (cc) in z
 
 -- tables
 

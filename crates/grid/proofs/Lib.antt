@@ -1,8 +1,8 @@
 pub mod Below
 pub mod Summed
-pub mod Filled
 pub mod Padded
-pub mod Printed
 pub mod Vertexes
 pub mod Framed
 pub mod Places
+pub mod Told
+pub mod Made

@@ -1,9 +1,10 @@
 -- The vertices of a box and their numbers: along each axis, a number is a digit below side + 1 and the number along the axes
 -- after it, so equal numbers have equal digits.
-use Rattle.std.proofs.Common.{◌≡◌, ℕ, suc, ◌+◌, ◌*◌, ◌/◌, ◌%◌, ◌^◌, ◌<◌, ◌≤◌, Bool, true, false, cond, List, [], ◌∷◌, length, get_or, drop, ℤ, pos, negsuc, nat_abs, Some, None, sym, refl, ap, ◌∙◌, ap₂, mul-le-mul_right, mul_comm, add_comm, add-one, arith}
+use Rattle.std.proofs.Common.{◌≡◌, ℕ, suc, ◌+◌, ◌-◌, ◌*◌, ◌/◌, ◌%◌, ◌^◌, ◌<◌, ◌≤◌, Bool, true, false, cond, List, [], ◌∷◌, length, get_or, take, drop, ℤ, pos, negsuc, nat_abs, Some, None, sym, refl, ap, ◌∙◌, ap₂, mul-le-mul_right, mul_comm, add_comm, arith}
 use native.Mathlib.Nat.{pow-le-pow_right, pow-succ'}
 use lib.Arith.{digits_div, digits_lt, digits_mod}
-use Rattle.std.proofs.lemmas.List.{drop_all, drop_more}
+use Rattle.std.proofs.lemmas.List.{take_rest}
+use Rattle.std.proofs.lemmas.Bool.{eq-eqb}
 use Rattle.std.proofs.lemmas.Bool.Decides.{nat_tests}
 use Rattle.grid.specs.Below.{all_below}
 use Rattle.grid.specs.Boxes.{axis_has, in_box, on_axis, OnlyNumber, place_answer, place_number, vertex_count}
@@ -11,7 +12,7 @@ use Rattle.grid.specs.Frames.{sides_of}
 use Rattle.grid.specs.Vertices.{coordinates_of}
 use Rattle.grid.specs.declared.frames.Frame.{Frame}
 use Rattle.grid.specs.declared.vertices.Vertex.{Vertex}
-use Rattle.grid.proofs.Below.{all_at}
+use Rattle.grid.proofs.Below.{all_at, all_from}
 use Rattle.grid.proofs.Framed.{length-sides, side_most}
 use Rattle.grid.proofs.Vertexes.{same_vertex_lem}
 
@@ -92,24 +93,10 @@ only_number sides v i w h =
     let a = answer_some sides (coordinates_of w) (place_number sides (coordinates_of v)) h in
     same_vertex_lem w v (place_tells sides (coordinates_of w) (coordinates_of v) (in_box_lem _ _ a.0) (in_box_lem _ _ i) a.1)
 
--- the number along the axes from j on, for a loop that comes down from the last axis
-
-pub place_none : (sides : List ℕ) (v : List ℤ) (j : ℕ) → length sides ≤ j → place_number (drop j sides) (drop j v) ≡ 0
-place_none sides v j h = ap (λ ss. place_number ss (drop j v)) (drop_all j sides h)
-
-pub place_more : (sides : List ℕ) (v : List ℤ) (j : ℕ) → j < length sides → length v ≡ length sides → place_number (drop j sides) (drop j v) ≡ nat_abs (get_or v j (pos 0)) + (get_or sides j 0 + 1) * place_number (drop (j + 1) sides) (drop (j + 1) v)
-place_more sides v j h e = ap₂ place_number (drop_more sides j 0 h) (drop_more v j (pos 0) (omega arith))
-
--- one axis more in a bound by powers of 1,001
-pub bound_more : (s x p n : ℕ) → x ≤ s → s ≤ 1000 → p < 1001 ^ n → x + (s + 1) * p < 1001 ^ (n + 1)
-bound_more s x p n xs sl pn =
-    let a : (s + 1) * p ≤ 1001 * p = mul-le-mul_right p (omega arith) in
-    rw (add-one n, pow-succ' 1001 n) (omega arith)
+-- a box has at most 1,001 vertices for each axis
 
 pub bound_most : (n m : ℕ) → n ≤ m → 1001 ^ n ≤ 1001 ^ m
 bound_most n m h = pow-le-pow_right (omega arith) h
-
--- a frame's box has fewer than 2^60 vertices
 
 count_most : (sides : List ℕ) → ((j : ℕ) → j < length sides → get_or sides j 0 ≤ 1000) → vertex_count sides ≤ 1001 ^ length sides
 count_most [] h = omega arith
@@ -118,6 +105,37 @@ count_most (s ∷ ss) h =
     let low : s ≤ 1000 = h 0 (omega arith) in
     let a : (s + 1) * vertex_count ss ≤ 1001 * vertex_count ss = mul-le-mul_right (vertex_count ss) (omega arith) in
     rw (pow-succ' 1001 (length ss)) (omega arith)
+
+-- the axes after the first: a slice without its first place
+
+abbrev After : {X : Type 0} → List X → List X
+After xs = take (length xs - 1) (drop 1 xs)
+
+in_box_from : (sides : List ℕ) (v : List ℤ) → InBox sides v → in_box sides v ≡ true
+in_box_from sides v i =
+    let n = eq-eqb _ _ i.axes in
+    let all = all_from (axis_has sides v) (length sides) i.each in
+    grind (arith, n, all)
+
+pub in_box_after : (sides : List ℕ) (v : List ℤ) → 1 ≤ length sides → in_box sides v ≡ true → in_box (After sides) (After v) ≡ true
+in_box_after [] v h i = absurd (omega arith)
+in_box_after (s ∷ ss) [] h i = absurd (let e = (in_box_lem (s ∷ ss) [] i).axes in omega arith)
+in_box_after (s ∷ ss) (x ∷ xs) h i =
+    ap₂ in_box (take_rest (s ∷ ss) 1) (take_rest (x ∷ xs) 1) ∙ in_box_from ss xs (in_box_rest s ss x xs (in_box_lem (s ∷ ss) (x ∷ xs) i))
+
+pub short_after : (sides : List ℕ) → ((j : ℕ) → j < length sides → get_or sides j 0 ≤ 1000) → (j : ℕ) → j < length (After sides) → get_or (After sides) j 0 ≤ 1000
+short_after [] h = λ j l. absurd (omega arith)
+short_after (s ∷ ss) h = rw (take_rest (s ∷ ss) 1) (λ j l. h (suc j) (omega arith))
+
+-- the numbers along up to five axes
+pub five_below : (sides : List ℕ) (v : List ℤ) → length sides ≤ 5 → in_box sides v ≡ true → ((j : ℕ) → j < length sides → get_or sides j 0 ≤ 1000) → place_number sides v < 1001 ^ 5
+five_below sides v h i s =
+    let below = place_below sides v (in_box_lem sides v i) in
+    let most = count_most sides s in
+    let five = bound_most (length sides) 5 h in
+    omega arith
+
+-- a frame's box has fewer than 2^60 vertices
 
 pub count_small : (f : Frame) → vertex_count (sides_of f) < 2 ^ 60
 count_small f =

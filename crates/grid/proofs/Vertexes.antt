@@ -1,5 +1,5 @@
 -- A vertex is its coordinates: equal coordinates make equal vertices, since the unused places hold 0.
-use Rattle.std.proofs.Common.{◌≡◌, ℕ, ◌-◌, ◌<◌, ◌≤◌, List, [], ◌∷◌, ◌++◌, length, get_or, take, drop, ℤ, pos, Some, sym, ap, ◌∙◌, subst, inl, inr, arith, eqb, refl, Decides}
+use Rattle.std.proofs.Common.{◌≡◌, ◌↔◌, ℕ, ◌<◌, ◌≤◌, Bool, List, length, get_or, ℤ, pos, Some, sym, ap, ◌∙◌, subst, inl, inr, arith, eqb, refl, Decides, IsTrue}
 use Rattle.std.specs.Ordering.{int_eq}
 use Rattle.std.specs.Cmp.Lexicographic.{pointwise}
 use Rattle.std.proofs.lemmas.Slice.Eq.{slice_eq-Decides}
@@ -7,12 +7,10 @@ use Rattle.std.proofs.lemmas.Bool.{and_from, and_parts}
 use native.Mathlib.Bridge.{le_prop}
 use native.Mathlib.Nat.{ℕ_set}
 use lib.IntN.{ℤ_set}
-use Rattle.std.specs.List.{flat_map}
-use Rattle.std.specs.Fmt.{signed_decimal}
-use Rattle.std.proofs.lemmas.List.{ext_get_or, get_or-take, length-take-le, take_rest}
+use Rattle.std.proofs.lemmas.List.{ext_get_or, get_or-take, length-take-le}
 use Rattle.std.proofs.lemmas.Bool.{cases_lt}
 use Rattle.std.proofs.lemmas.Bool.Decides.{nat_tests, Decides-eqb, Decides-int_eq}
-use Rattle.grid.specs.Vertices.{after_space, coordinates_of, spaced, vertex_answer, VertexEqExact}
+use Rattle.grid.specs.Vertices.{coordinates_of, vertex_answer, VertexEqExact}
 use Rattle.grid.specs.declared.vertices.Vertex.{Vertex}
 
 abbrev Rest : ℕ → List ℤ → Type 0
@@ -53,11 +51,6 @@ same_vertex_lem v w e = vertex_from v w axes (ext_get_or (pos 0) v.at w.at (v.lo
       | inr g ↦ v.rest j g ∙ sym (w.rest j (omega (arith, axes)))
     ]
 
--- the text of some numbers: the first, and the others after spaces
-pub spaced_parts : (xs : List ℤ) → 1 ≤ length xs → signed_decimal (get_or xs 0 (pos 0)) ++ flat_map after_space (take (length xs - 1) (drop 1 xs)) ≡ spaced xs
-spaced_parts [] h = absurd (omega arith)
-spaced_parts (x ∷ xs) h = ap (λ ys. signed_decimal x ++ flat_map after_space ys) (take_rest (x ∷ xs) 1)
-
 -- 2 to 6 numbers are a vertex's coordinates
 pub vertex_taken : (xs : List ℤ) (d : ℕ) → length xs ≡ d → 2 ≤ d → d ≤ 6 → vertex_answer xs ≡ Some xs
 vertex_taken xs d e h g = grind (arith, nat_tests)
@@ -70,3 +63,9 @@ vertex_eq_exact v w =
       λ h. let both = and_parts (eqb v.d w.d) (pointwise int_eq v.at w.at) h in vertex_from v w (axes.0 both.0) (places.0 both.1),
       λ e. and_from (eqb v.d w.d) (pointwise int_eq v.at w.at) (axes.1 (ap (λ (x : Vertex). x.d) e)) (places.1 (ap (λ (x : Vertex). x.at) e)),
     )
+
+-- the same of two vertices with as many axes, by a test of their numbers
+pub told_exact : (v w : Vertex) (b : Bool) → v.d ≡ w.d → b ≡ pointwise int_eq v.at w.at → IsTrue b ↔ (v ≡ w)
+told_exact v w b axes e =
+    let places : Decides (pointwise int_eq v.at w.at) (v.at ≡ w.at) = slice_eq-Decides Decides-int_eq v.at w.at (pointwise int_eq v.at w.at) refl in
+    rw e ((λ h. vertex_from v w axes (places.0 h)), (λ h. places.1 (ap (λ (x : Vertex). x.at) h)))

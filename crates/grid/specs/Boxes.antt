@@ -1,5 +1,5 @@
 -- The box of sides s1, s2, ..: axis j runs from 0 to side j, both ends in it.
-use Rattle.std.specs.Prelude.{◌≡◌, ℕ, ◌+◌, ◌*◌, Bool, cond, ◌&&◌, List, [], ◌∷◌, length, ℤ, pos, Some, None, Option, ◌==◌, int_le, slice_index, slice_index_or, unsigned_abs}
+use Rattle.std.specs.Prelude.{◌≡◌, ℕ, ◌+◌, ◌*◌, Bool, if◌then◌else◌, ◌&&◌, List, [], ◌∷◌, length, ℤ, pos, Some, None, Option, ◌==◌, int_le, slice_index, slice_index_or, unsigned_abs}
 use Rattle.grid.specs.Below.{all_below}
 use Rattle.grid.specs.Vertices.{coordinates_of}
 use Rattle.grid.specs.declared.vertices.Vertex.{Vertex}
@@ -27,7 +27,7 @@ place_number (s ∷ ss) (x ∷ xs) = unsigned_abs x + (s + 1) * place_number ss 
 
 -- only a vertex of the box has a number
 abbrev pub place_answer : List ℕ → List ℤ → Option ℕ
-place_answer sides v = cond (in_box sides v) (Some (place_number sides v)) None
+place_answer sides v = if in_box sides v then Some (place_number sides v) else None
 
 -- two vertices of a box with one number are equal: v alone has the number n
 abbrev pub OnlyNumber : List ℕ → Vertex → ℕ → Type 0

@@ -1,5 +1,5 @@
 -- A frame in plain values: d axes, k rows and d sides.
-use Rattle.std.specs.Prelude.{ℕ, Bool, cond, ◌&&◌, List, length, take, Ok, Err, Result, ◌==◌, nat_le, nat_lt, slice_index, slice_index_or}
+use Rattle.std.specs.Prelude.{ℕ, Bool, if◌then◌else◌, ◌&&◌, List, length, take, Ok, Err, Result, ◌==◌, nat_le, nat_lt, slice_index, slice_index_or}
 use Rattle.grid.specs.Below.{all_below, table}
 use Rattle.grid.specs.Refusals.{RefusalNumbers, refusal}
 use Rattle.grid.specs.declared.frames.Frame.{Frame}
@@ -27,7 +27,7 @@ is_frame d k ss = nat_le 2 d && nat_le d 6 && nat_le 1 k && nat_le k 3 && nat_lt
 
 -- refusal 2 for numbers that are no frame's
 abbrev pub frame_answer : ℕ → ℕ → List ℕ → Result FrameNumbers RefusalNumbers
-frame_answer d k ss = cond (is_frame d k ss) (Ok (record { d = d; k = k; sides = ss })) (Err (refusal 2))
+frame_answer d k ss = if is_frame d k ss then Ok (record { d = d; k = k; sides = ss }) else Err (refusal 2)
 
 -- the first d sides, and 1 where there are fewer
 abbrev pub fitted_sides : ℕ → List ℕ → List ℕ

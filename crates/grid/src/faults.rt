@@ -7,15 +7,15 @@ use std::fmt;
 #[derive(Clone, Copy, PartialEq, Eq, Debug)]
 pub enum Cause {
     // The vertex is not in the field's box.
-    Outside,
+    Outside = 1,
     // The field has no number there.
-    Blank,
+    Blank = 2,
     // A number there leaves the range of values.
-    OffScale,
+    OffScale = 3,
 }
 
 // The place is the vertex's number in the box of the field that raised the fault, and the height says how many layers
-// stand below that field.
+// stand below that field. Outside the box the place is 0, and no Option: all three numbers are answered and printed.
 #[derive(Clone, Copy, PartialEq, Eq, Debug)]
 pub struct Fault {
     pub cause: Cause,
@@ -27,14 +27,11 @@ impl Cause {
     pub fn number(self) -> u8
         ensures { result ≡ cause_number self }
     {
-        match self {
-            Cause::Outside => 1,
-            Cause::Blank => 2,
-            Cause::OffScale => 3,
-        }
+        self as u8
     }
 }
 
+// Written out: a derived text would not stand in the contract as `output`.
 impl fmt::Display for Cause {
     ghost output = { λ x. Some (cause_text x) };
 
@@ -47,6 +44,7 @@ impl fmt::Display for Cause {
     }
 }
 
+// Written out, like that of its cause.
 impl fmt::Display for Fault {
     ghost output = { λ x. Some (fault_text x) };
 

@@ -5,6 +5,8 @@ mod calls;
 ghost use Rattle.std.specs.Prelude.{◌≡◌, ℕ, ◌<◌, ◌≤◌, length, slice_index};
 
 // The places from d on hold 0, so that frames with the same numbers are equal.
+// An array and its length: the library has no heap, and an `ArrayVec` is not `Copy`.
+// No `Model`: the layers above read these facts off the fields, without a call.
 #[derive(Clone, Copy, Debug)]
 pub struct Frame {
     d: u8,

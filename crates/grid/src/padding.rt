@@ -7,8 +7,6 @@ pub fn padded<T: Copy>(numbers: &[T], rest: T) -> [T; 6]
     ensures { result ≡ numbers.now ++ replicate (6 - length numbers.now) rest }
 {
     let mut all = [rest; 6];
-    for (j, number) in numbers.iter().enumerate() {
-        all[j] = *number;
-    }
+    all[..numbers.len()].copy_from_slice(numbers);
     all
 }

@@ -25,6 +25,7 @@ pub enum Refusal {
 }
 
 impl Refusal {
+    // By a match, since a variant that carries a fault leaves no discriminants to read.
     pub fn number(self) -> u8
         ensures { result ≡ (refusal_numbers self).number }
     {
@@ -64,6 +65,7 @@ impl From<Fault> for Refusal {
     }
 }
 
+// Written out: a derived text would not stand in the contract as `output`.
 impl fmt::Display for Refusal {
     ghost output = { λ x. Some (refusal_text x) };
 

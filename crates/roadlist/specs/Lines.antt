@@ -1,5 +1,5 @@
 -- The line of a vertex: its number in the cell, its coordinates, and its number in the box.
-use Rattle.std.specs.Prelude.{ℕ, cond, List, ◌∷◌, ◌++◌, ℤ, None, decimal, Option, nat_le}
+use Rattle.std.specs.Prelude.{ℕ, if◌then◌else◌, List, ◌∷◌, ◌++◌, ℤ, None, decimal, Option, nat_le}
 use Rattle.std.specs.Option.{option_map}
 use Rattle.grid.specs.Boxes.{place_answer}
 use Rattle.grid.specs.Vertices.{coordinates_of, spaced}
@@ -23,4 +23,4 @@ abbrev pub line_of : CellRecord → ℕ → ℕ → LineNumbers
 line_of r i n = record { number = i; at = vertex_of r i; place = n }
 
 abbrev pub line_answer : List ℕ → CellRecord → ℕ → Option LineNumbers
-line_answer sides r i = cond (nat_le i r.l) (option_map (line_of r i) (place_answer sides (vertex_of r i))) None
+line_answer sides r i = if nat_le i r.l then option_map (line_of r i) (place_answer sides (vertex_of r i)) else None

@@ -19,9 +19,11 @@ impl fmt::Display for VertexLine {
     ghost output = { λ x. Some (line_text (line_numbers x)) };
 
     fn fmt<W: fmt::Write>(&self, f: &mut fmt::Formatter<W>) -> fmt::Result {
-        let number = self.number;
-        let vertex = self.vertex;
-        let place = self.place;
+        let VertexLine {
+            number,
+            vertex,
+            place,
+        } = self;
         write!(f, "{number} {vertex} {place}")
     }
 }

@@ -2,18 +2,19 @@
 // the seed's cofacets.
 #![tactic(auto)]
 
-mod level;
 mod lines;
 
 use cells::Cell;
 use fields::{Field, Table};
+use first_level::SAMPLES;
 use grid::Vertex;
 use std::io;
 
+// Both programs open the level alike, and part at once: what they share of `main` is too little to be handed a function.
 fn main(rt: HostRuntime) -> io::Result<()> {
-    match level::open() {
+    match first_level::open() {
         Ok(level) => {
-            let table = Table::new(level.frame, &[-3, -1, 1, -1, 1, 3]);
+            let table = Table::new(level.frame, &SAMPLES);
             print_level(&rt, &table, &level.seed)
         }
         Err(refusal) => {
@@ -23,12 +24,14 @@ fn main(rt: HostRuntime) -> io::Result<()> {
     }
 }
 
+// The field and its seed are passed on as two: a struct of both would be taken apart in each function.
 fn print_level(rt: &impl Print, field: &impl Field, seed: &Cell) -> io::Result<()> {
     let d = field.frame().d();
     let k = field.frame().k();
     println!(rt; "{d} {k}")?;
     println!(rt; "{seed}")?;
-    for i in 0..u32::from(seed.dimension()) + 1 {
+    // The number is printed beside the vertex, so a chain would have to hand on both and say no more.
+    for i in 0..=u32::from(seed.dimension()) {
         if let Some(vertex) = seed.vertex(i) {
             print_vertex(rt, field, seed, i, &vertex)?;
         }
@@ -63,6 +66,7 @@ fn print_outcome(rt: &impl Print, field: &impl Field, vertex: &Vertex) -> io::Re
 }
 
 fn print_cofacets(rt: &impl Print, seed: &Cell) -> io::Result<()> {
+    // As with the vertices, the number is printed too.
     for c in 0..seed.cofacets() {
         if let Ok(cofacet) = seed.cofacet(c) {
             println!(rt; "{c} {cofacet}")?;

@@ -1,5 +1,5 @@
 -- What is printed: d, k, count and steps, and then the place, the base and the labels of each listed cell.
-use Rattle.std.specs.Prelude.{ℕ, cond, List, ◌∷◌, ◌++◌, Some, None, decimal, Option}
+use Rattle.std.specs.Prelude.{ℕ, if◌then◌else◌, List, ◌∷◌, ◌++◌, Some, None, decimal, Option}
 use Rattle.cells.specs.Cells.{is_cell}
 use Rattle.cells.specs.Texts.{cell_text}
 use Rattle.cells.specs.declared.records.CellRecord.{CellRecord}
@@ -21,4 +21,4 @@ line_text x = decimal x.place ++ (32 ∷ cell_text x.cell)
 
 -- a line for each record that is a cell
 abbrev pub line_answer : ℕ → CellRecord → Option LineNumbers
-line_answer n r = cond (is_cell r) (Some (record { place = n; cell = r })) None
+line_answer n r = if is_cell r then Some (record { place = n; cell = r }) else None

@@ -19,10 +19,13 @@ impl fmt::Display for HeadLine {
     ghost output = { λ x. Some (head_text x) };
 
     fn fmt<W: fmt::Write>(&self, f: &mut fmt::Formatter<W>) -> fmt::Result {
-        let d = self.frame.d();
-        let k = self.frame.k();
-        let count = self.count;
-        let steps = self.steps;
+        let HeadLine {
+            frame,
+            count,
+            steps,
+        } = self;
+        let d = frame.d();
+        let k = frame.k();
         write!(f, "{d} {k} {count} {steps}")
     }
 }
@@ -38,8 +41,7 @@ impl fmt::Display for CellLine {
     ghost output = { λ x. Some (line_text (line_numbers x)) };
 
     fn fmt<W: fmt::Write>(&self, f: &mut fmt::Formatter<W>) -> fmt::Result {
-        let place = self.place;
-        let cell = self.cell;
+        let CellLine { place, cell } = self;
         write!(f, "{place} {cell}")
     }
 }

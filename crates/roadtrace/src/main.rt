@@ -1,20 +1,28 @@
 // Traces the road of the level that it holds: plants the seed, steps to the end, seals, and prints what is listed.
 #![tactic(auto)]
 
-mod level;
 mod lines;
 
 use cells::{Cell, CellRecord};
 use fields::{Field, Table};
+use first_level::SAMPLES;
 use grid::Refusal;
 use lines::HeadLine;
 use std::io;
-use tracing::{Ending, Sealed, Trace};
+use tracing::{Sealed, Trace};
+
+// What stands in the places of a list that are not used: no cell.
+const UNUSED: CellRecord = CellRecord {
+    d: 0,
+    l: 0,
+    base: [0; 6],
+    labels: [0; 7],
+};
 
 fn main(rt: HostRuntime) -> io::Result<()> {
-    match level::open() {
+    match first_level::open() {
         Ok(level) => {
-            let table = Table::new(level.frame, &[-3, -1, 1, -1, 1, 3]);
+            let table = Table::new(level.frame, &SAMPLES);
             print_road(&rt, &table, &level.seed)
         }
         Err(refusal) => print_refusal(&rt, refusal),
@@ -22,23 +30,18 @@ fn main(rt: HostRuntime) -> io::Result<()> {
 }
 
 fn print_road(rt: &impl Print, field: &impl Field, seed: &Cell) -> io::Result<()> {
-    let mut list = [level::UNUSED; 16];
+    let mut list = [UNUSED; 16];
     match traced(field, seed, &mut list) {
         Ok(sealed) => print_cells(rt, field, &sealed, &list),
         Err(refusal) => print_refusal(rt, refusal),
     }
 }
 
-// The whole road in the list, or the first refusal on the way.
+// The whole road in the list, or the first refusal on the way. Field, seed and list go on as the calls of a trace take them.
 fn traced<F: Field>(field: &F, seed: &Cell, list: &mut [CellRecord]) -> Result<Sealed, Refusal> {
     let mut trace = Trace::plant(field, seed, list)?;
-    if let Ending::Refused(refusal) = trace.step(field, list, u32::MAX).ending {
-        return Err(refusal);
-    }
-    match trace.seal() {
-        Ok(sealed) => Ok(sealed),
-        Err(unsealed) => Err(unsealed.refusal),
-    }
+    trace.step(field, list, u32::MAX).ending?;
+    trace.seal().map_err(|unsealed| unsealed.refusal)
 }
 
 fn print_cells(
@@ -53,10 +56,9 @@ fn print_cells(
         steps: sealed.steps(),
     };
     println!(rt; "{head}")?;
-    for (place, record) in list.iter().take(sealed.count()).enumerate() {
-        if let Some(line) = lines::cell_line(place, *record) {
-            println!(rt; "{line}")?;
-        }
+    let listed = list.iter().take(sealed.count()).enumerate();
+    for line in listed.filter_map(|(place, record)| lines::cell_line(place, *record)) {
+        println!(rt; "{line}")?;
     }
     Ok(())
 }

@@ -1,5 +1,6 @@
 -- Alike fields have the same ground, and so have fields that mean the same.
-use Rattle.std.proofs.Common.{◌≡◌, Bool, true, false, sym, refl, subst}
+use Rattle.std.proofs.Common.{◌≡◌, true, sym, subst}
+use Rattle.std.specs.Cmp.{both_ways}
 use Rattle.grid.specs.Boxes.{in_box}
 use Rattle.grid.specs.Frames.{FrameNumbers, is_frame}
 use Rattle.cells.specs.Pairs.{pair_count}
@@ -11,11 +12,6 @@ use Rattle.crossing.specs.declared.classes.Class.TheVariants.{Crossed}
 use Rattle.crossing.proofs.Tested.{class_alike}
 use Rattle.tracing.specs.Steps.{leads_to}
 use Rattle.tracing.proofs.Grounded.{crossed_is, ground_of}
-
-same_truth : (a b : Bool) → (a ≡ true → b ≡ true) → (b ≡ true → a ≡ true) → a ≡ b
-same_truth true b f g = sym (f refl)
-same_truth false true f g = g refl
-same_truth false false f g = refl
 
 outcomes_back : (o u : Outcome) → AlikeOutcomes o u → AlikeOutcomes u o
 outcomes_back (values xs) (values ys) e = sym e
@@ -30,7 +26,7 @@ pub alike_ground : (m n : Meaning) → Good m → Good n → Alike m n → groun
 alike_ground m n p q a = λ i. record { pairs = pair_count; leads = leads_to (a.frame i).sides; crossed = λ c. same c i }
   where
     same : (c : CellRecord) → (ground_of m).crossed c ≡ (ground_of n).crossed c
-    same c = same_truth _ _ (λ e. (crossed_is n q c).1 (class_alike m n c Crossed a ((crossed_is m p c).0 e))) (λ e. (crossed_is m p c).1 (class_alike n m c Crossed (alike_back m n a) ((crossed_is n q c).0 e)))
+    same c = both_ways _ _ (λ e. (crossed_is n q c).1 (class_alike m n c Crossed a ((crossed_is m p c).0 e))) (λ e. (crossed_is m p c).1 (class_alike n m c Crossed (alike_back m n a) ((crossed_is n q c).0 e)))
 
 same_good : (m n : Meaning) → SameMeaning m n → Good m → Good n
 same_good m n s g = record {

@@ -1,6 +1,5 @@
 -- The loop of a step: the pairs treated so far, and what a run from here would add, are the whole run.
-use Rattle.std.proofs.Common.{◌≡◌, ℕ, zero, suc, ◌+◌, ◌-◌, ◌<◌, Bool, eqb, List, sym, ap, ◌∙◌, arith}
-use Rattle.std.proofs.lemmas.Bool.{cond-true, eq-eqb, ne_eqb}
+use Rattle.std.proofs.Common.{◌≡◌, ℕ, zero, suc, ◌+◌, ◌-◌, ◌<◌, Bool, true, false, cond, eqb, List, sym, ap, ◌∙◌, arith}
 use Rattle.grid.specs.Refusals.{RefusalNumbers}
 use Rattle.cells.specs.declared.records.CellRecord.{CellRecord}
 use Rattle.fields.specs.Fields.{Meaning}
@@ -21,21 +20,21 @@ module _ (m : Meaning) where
   plus_halted : (n : ℕ) (e : Ending) (t : TraceNumbers) (xs : List CellRecord) → plus n (halted e t xs) ≡ stepped_by n e t xs
   plus_halted n e t xs = ap (λ (k : ℕ). stepped_by k e t xs) (omega arith)
 
-  run_finished : (t : TraceNumbers) (xs : List CellRecord) (b : ℕ) → t.next ≡ t.count → run m b t xs ≡ halted finished t xs
-  run_finished t xs zero e = ap (λ (k : Ending). halted k t xs) (cond-true (eqb t.next t.count) finished spent (eq-eqb t.next t.count e))
-  run_finished t xs (suc b) e = ap (λ (k : Bool). going m k (run m b) t xs) (eq-eqb t.next t.count e)
+  run_finished : (t : TraceNumbers) (xs : List CellRecord) (b : ℕ) → eqb t.next t.count ≡ true → run m b t xs ≡ halted finished t xs
+  run_finished t xs zero e = ap (λ (k : Bool). halted (cond k finished spent) t xs) e
+  run_finished t xs (suc b) e = ap (λ (k : Bool). going m k (run m b) t xs) e
 
   -- i of b pairs are treated, the trace is t over the list xs, and the whole run leaves w
   module _ (b i : ℕ) (t : TraceNumbers) (xs : List CellRecord) (w : Stepped) (whole : plus i (run m (b - i) t xs) ≡ w) where
-    pub ends_finished : t.next ≡ t.count → stepped_by i finished t xs ≡ w
+    pub ends_finished : eqb t.next t.count ≡ true → stepped_by i finished t xs ≡ w
     ends_finished e = sym (plus_halted i finished t xs) ∙ ap (plus i) (sym (run_finished t xs (b - i) e)) ∙ whole
 
-    module _ (left : i < b) (goes : t.next ≡ t.count → ⊥) where
+    module _ (left : i < b) (goes : eqb t.next t.count ≡ false) where
       by_turn : (u : Turn) → u ≡ treat m t xs → plus i (turned (run m (b - (i + 1))) u t xs) ≡ w
       by_turn u e =
           let one : suc (b - (i + 1)) ≡ b - i = omega arith in
           ap (λ (v : Turn). plus i (turned (run m (b - (i + 1))) v t xs)) e
-          ∙ ap (λ (k : Bool). plus i (going m k (run m (b - (i + 1))) t xs)) (sym (ne_eqb t.next t.count goes))
+          ∙ ap (λ (k : Bool). plus i (going m k (run m (b - (i + 1))) t xs)) (sym goes)
           ∙ ap (λ (k : ℕ). plus i (run m k t xs)) one
           ∙ whole
 

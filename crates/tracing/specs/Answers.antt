@@ -1,23 +1,24 @@
 -- What the code answers, in plain values.
 use Rattle.std.specs.Prelude.{List, Ok, Err, Result}
 use Rattle.grid.specs.Refusals.{refusal_numbers}
+use Rattle.grid.specs.declared.refusals.Refusal.{Refusal}
 use Rattle.cells.specs.declared.records.CellRecord.{CellRecord}
 use Rattle.tracing.specs.Seals.{accepted, handed_back, Sealing}
 use Rattle.tracing.specs.Steps as steps
 use Rattle.tracing.specs.Steps.{finished, refused, spent, Stepped}
 use Rattle.tracing.specs.Traces.{TraceNumbers, trace_numbers}
 use Rattle.tracing.specs.declared.traces.Ending.{Ending}
-use Rattle.tracing.specs.declared.traces.Ending.TheVariants.{Finished, Refused, Spent}
+use Rattle.tracing.specs.declared.traces.Ending.TheVariants.{Finished, Spent}
 use Rattle.tracing.specs.declared.traces.Report.{Report}
 use Rattle.tracing.specs.declared.traces.Sealed.{Sealed}
 use Rattle.tracing.specs.declared.traces.Stepping.{Stepping}
 use Rattle.tracing.specs.declared.traces.Trace.{Trace}
 use Rattle.tracing.specs.declared.traces.Unsealed.{Unsealed}
 
-abbrev pub ending_numbers : Ending → steps.Ending
-ending_numbers Finished = finished
-ending_numbers Spent = spent
-ending_numbers (Refused e) = refused (refusal_numbers e)
+abbrev pub ending_numbers : Result Ending Refusal → steps.Ending
+ending_numbers (Ok Finished) = finished
+ending_numbers (Ok Spent) = spent
+ending_numbers (Err e) = refused (refusal_numbers e)
 
 -- the trace and the list after a call of step, and its answer
 abbrev pub stepped_of : Trace → List CellRecord → Stepping → Stepped

@@ -1,5 +1,5 @@
 -- What report and seal answer.
-use Rattle.std.specs.Prelude.{ℕ, cond, ◌==◌}
+use Rattle.std.specs.Prelude.{ℕ, if◌then◌else◌, ◌==◌}
 use Rattle.tracing.specs.Traces.{TraceNumbers}
 
 -- what a sealed trace keeps and shows
@@ -17,4 +17,4 @@ report_answer t = t
 
 -- accepted exactly if next = count, and else 12
 abbrev pub seal_answer : TraceNumbers → Sealing
-seal_answer t = cond (t.next == t.count) (accepted (record { count = t.count; steps = t.steps })) (handed_back 12 t)
+seal_answer t = if t.next == t.count then accepted (record { count = t.count; steps = t.steps }) else handed_back 12 t

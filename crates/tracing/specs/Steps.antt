@@ -1,5 +1,5 @@
 -- What step does: pair by pair of the cell at place next, until it is finished, its budget is spent, or a pair is refused.
-use Rattle.std.specs.Prelude.{ℕ, zero, suc, ◌+◌, ◌/◌, ◌%◌, Bool, true, false, cond, ◌||◌, List, [], length, take, Some, None, Ok, Err, Option, Result, ◌==◌, nat_lt, slice_index_or, slice_set}
+use Rattle.std.specs.Prelude.{ℕ, zero, suc, ◌+◌, ◌/◌, ◌%◌, Bool, true, false, if◌then◌else◌, ◌||◌, List, [], length, take, Some, None, Ok, Err, Option, Result, ◌==◌, nat_lt, slice_index_or, slice_set}
 use Rattle.grid.specs.Lists.{holds}
 use Rattle.grid.specs.Refusals.{refusal, RefusalNumbers}
 use Rattle.cells.specs.Cofacets.{cofacet_answer}
@@ -35,7 +35,7 @@ pub record Stepped : Type 0 where
 
 -- the facet that a pair of the cell leads to, if its cofacet is wholly in the box; one that leaves the world is not
 abbrev pub through_cofacet : List ℕ → ℕ → Result CellRecord RefusalNumbers → Option CellRecord
-through_cofacet sides i (Ok t) = cond (lies_in sides t) (Some (facet_of t i)) None
+through_cofacet sides i (Ok t) = if lies_in sides t then Some (facet_of t i) else None
 through_cofacet sides i (Err e) = None
 
 abbrev pub leads_to : List ℕ → CellRecord → ℕ → Option CellRecord
@@ -107,9 +107,9 @@ module _ (m : Meaning) where
 
   -- finished wins over spent
   abbrev pub run : ℕ → TraceNumbers → List CellRecord → Stepped
-  run zero t xs = halted (cond (t.next == t.count) finished spent) t xs
+  run zero t xs = halted (if t.next == t.count then finished else spent) t xs
   run (suc b) t xs = going (t.next == t.count) (run b) t xs
 
   -- 6 first, if the list is shorter than count
   abbrev pub step_answer : ℕ → TraceNumbers → List CellRecord → Stepped
-  step_answer budget t xs = cond (nat_lt (length xs) t.count) (halted (refused (refusal 6)) t xs) (run budget t xs)
+  step_answer budget t xs = if nat_lt (length xs) t.count then halted (refused (refusal 6)) t xs else run budget t xs

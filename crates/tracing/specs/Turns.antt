@@ -1,5 +1,5 @@
 -- What the parts of a step leave: the cell that is worked on, a turn, and the end of a budget.
-use Rattle.std.specs.Prelude.{◌≡◌, ℕ, ◌≤◌, cond, List, length, Ok, Err, Result, ◌==◌, nat_lt}
+use Rattle.std.specs.Prelude.{◌≡◌, ℕ, ◌≤◌, if◌then◌else◌, List, length, Ok, Err, Result, ◌==◌, nat_lt}
 use Rattle.grid.specs.Frames.{FrameNumbers}
 use Rattle.grid.specs.Refusals.{refusal, RefusalNumbers, refusal_numbers}
 use Rattle.grid.specs.declared.refusals.Refusal.{Refusal}
@@ -12,7 +12,7 @@ use Rattle.tracing.specs.declared.traces.Trace.{Trace}
 
 -- a record as the cell whose pair n is treated: 8 if it does not fit, then 6 if it has no such pair
 abbrev pub cell_with_pair : FrameNumbers → ℕ → CellRecord → Result CellRecord RefusalNumbers
-cell_with_pair f n c = cond (fits_frame f c) (cond (nat_lt n (pair_count c)) (Ok c) (Err (refusal 6))) (Err (refusal 8))
+cell_with_pair f n c = if fits_frame f c then (if nat_lt n (pair_count c) then Ok c else Err (refusal 6)) else Err (refusal 8)
 
 abbrev pub turn_of : Trace → List CellRecord → Result (Unit {0}) Refusal → Turn
 turn_of t xs (Ok u) = moved (trace_numbers t) xs
@@ -37,4 +37,4 @@ pub record SamePair (s t : Trace) (xs : List CellRecord) : Type 0 where
 
 -- the whole budget is used: finished wins over spent
 abbrev pub at_last : TraceNumbers → Ending
-at_last t = cond (t.next == t.count) finished spent
+at_last t = if t.next == t.count then finished else spent

@@ -1,8 +1,11 @@
 // Lists without repeats, of records that can tell sameness, over a slice that the caller lends.
-ghost use Rattle.std.specs.Prelude.{◌≡◌, ◌+◌, ◌≤◌, min, Bool, true, ◌↔◌, length, take, if◌then◌else◌, nat_lt, slice_set};
+ghost use Rattle.std.specs.Prelude.{◌≡◌, ◌+◌, ◌≤◌, ◌↔◌, min, Bool, true, Ok, Err, is_ok, length, take, if◌then◌else◌, nat_lt, slice_set, position};
+ghost use Rattle.grid.specs.declared.refusals.Refusal.TheVariants.{NoPlaceUnused};
 ghost use Rattle.tracing.specs.Search.{lowest_place, usable};
 
-// A record that can tell whether another is the same.
+use grid::Refusal;
+
+// A record that can tell whether another is the same. Not a law about `==`: that would shut out a record whose `==` is coarser.
 pub trait Same {
     ghost same_as: { Self → Self → Bool };
 
@@ -13,7 +16,10 @@ pub trait Same {
     ghost exact: { (x y : Self) → (same_as x y ≡ true) ↔ (x ≡ y) };
 }
 
-// The first `count` places of a slice are used.
+// No list uses more places than this, however long its slice is.
+const MOST_PLACES: usize = 65535;
+
+// The first `count` places of a slice are used. The places are the caller's memory, since the library has no heap.
 #[derive(Drop)]
 pub struct Listed<'a, R> {
     places: &'a mut [R],
@@ -28,7 +34,7 @@ impl<'a, R: Same + Drop> Listed<'a, R> {
         ensures kept { result.places.now ≡ places.old }
         ensures lent { result.places.ghost_name ≡ places.entry.ghost_name }
     {
-        let count = count.min(places.len()).min(65535);
+        let count = count.min(places.len()).min(MOST_PLACES);
         Listed { places, count }
     }
 
@@ -40,36 +46,35 @@ impl<'a, R: Same + Drop> Listed<'a, R> {
     }
 
     // The lowest place that holds this record.
+    #[tactic(auto, using(crate::proofs::Lowest::position_is_lowest))]
     pub fn find(&self, record: &R) -> Option<usize>
         ensures { result ≡ lowest_place R.Same.same_as «record».now (take self.now.count self.now.places.now) }
     {
-        lowest_place(self.places, self.count, record)
+        first_place(self.places, self.count, record)
     }
 
-    // Puts the record at the first unused place. False if there is none, and nothing changes then.
-    pub fn append(&mut self, record: R) -> bool
-        ensures answer { result ≡ nat_lt self.old.count (usable self.old.places.now) }
-        ensures counted { self.new.count ≡ (if result then self.old.count + 1 else self.old.count) }
-        ensures written { self.new.places.now ≡ (if result then slice_set self.old.places.now self.old.count «record» else self.old.places.now) }
+    // Puts the record at the first unused place. If there is none, nothing changes.
+    pub fn append(&mut self, record: R) -> Result<(), Refusal>
+        ensures answer { result ≡ (if nat_lt self.old.count (usable self.old.places.now) then Ok tt else Err NoPlaceUnused) }
+        ensures counted { self.new.count ≡ (if is_ok result then self.old.count + 1 else self.old.count) }
+        ensures written { self.new.places.now ≡ (if is_ok result then slice_set self.old.places.now self.old.count «record» else self.old.places.now) }
         ensures lent { self.new.places.ghost_name ≡ self.old.places.ghost_name }
     {
-        if self.count >= self.places.len() || self.count >= 65535 {
-            return false;
+        if self.count >= self.places.len() || self.count >= MOST_PLACES {
+            return Err(Refusal::NoPlaceUnused);
         }
         self.places[self.count] = record;
         self.count += 1;
-        true
+        Ok(())
     }
 }
 
-// The lowest place below `count`, or below the slice's length, that holds the record.
-fn lowest_place<R: Same>(places: &[R], count: usize, record: &R) -> Option<usize>
-    ensures { result ≡ lowest_place R.Same.same_as «record».now (take count places.now) }
+// The first place below `count`, or below the slice's length, that holds the record.
+fn first_place<R: Same>(places: &[R], count: usize, record: &R) -> Option<usize>
+    ensures { result ≡ position (R.Same.same_as «record».now) (take count places.now) }
 {
-    for i in 0..count.min(places.len()) {
-        if record.is_same(&places[i]) {
-            return Some(i);
-        }
-    }
-    None
+    places
+        .iter()
+        .take(count)
+        .position(|place| record.is_same(place))
 }

@@ -1,5 +1,4 @@
-// Cell records and vertices can tell sameness.
-ghost use Rattle.std.specs.Prelude.{◌≡◌};
+// Cell records and vertices can tell sameness: by `==`, which is exact for both.
 ghost use Rattle.grid.specs.Vertices.{vertex_eq};
 ghost use Rattle.grid.proofs.Vertexes.{vertex_eq_exact};
 ghost use Rattle.cells.specs.Records.{record_eq};
@@ -15,7 +14,7 @@ impl Same for CellRecord {
     ghost exact = { record_eq_exact };
 
     fn is_same(&self, other: &CellRecord) -> bool {
-        are_same_records(self, other)
+        self == other
     }
 }
 
@@ -25,18 +24,6 @@ impl Same for Vertex {
     ghost exact = { vertex_eq_exact };
 
     fn is_same(&self, other: &Vertex) -> bool {
-        are_same_vertices(self, other)
+        self == other
     }
-}
-
-fn are_same_records(r: &CellRecord, s: &CellRecord) -> bool
-    ensures { result ≡ record_eq r.now s.now }
-{
-    r == s
-}
-
-fn are_same_vertices(v: &Vertex, w: &Vertex) -> bool
-    ensures { result ≡ vertex_eq v.now w.now }
-{
-    v == w
 }

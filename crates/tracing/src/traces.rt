@@ -22,7 +22,7 @@ pub struct Trace {
     ghost paced: { steps ≤ 7056 * next + pair },
 }
 
-// The numbers of a trace, to be read.
+// The numbers of a trace, to be read. They may be copied and written down, which makes no trace.
 #[derive(Clone, Copy, PartialEq, Eq, Debug)]
 pub struct Report {
     pub count: usize,
@@ -31,19 +31,18 @@ pub struct Report {
     pub steps: u32,
 }
 
-// How a call of step ends.
+// How a call of step ends that is not refused.
 #[derive(Clone, Copy, PartialEq, Eq, Debug)]
 pub enum Ending {
     Finished,
     Spent,
-    Refused(Refusal),
 }
 
-// What step answers: how many steps it took, and how it ended.
+// What step answers: how many steps it took, and how it ended. A call that is refused may have taken steps too.
 #[derive(Clone, Copy, PartialEq, Eq, Debug)]
 pub struct Stepping {
     pub taken: u32,
-    pub ending: Ending,
+    pub ending: Result<Ending, Refusal>,
 }
 
 // A trace that seal accepted. It takes no step, and only seal makes one.

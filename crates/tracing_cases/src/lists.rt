@@ -1,6 +1,6 @@
 // Lists without repeats.
 use crate::setting::worked_road;
-use grid::Vertex;
+use grid::{Refusal, Vertex};
 use std::test::Fail;
 use tracing::Listed;
 
@@ -19,18 +19,14 @@ fn find_answers_the_lowest_used_place(rt: HostRuntime) {
 fn append_puts_at_the_first_unused_place_until_the_slice_is_full(
     rt: HostRuntime,
 ) -> Result<(), Fail> {
-    let Some(one) = Vertex::new(&[1, 2]) else {
-        return Err(Fail::new("no vertex"));
-    };
-    let Some(other) = Vertex::new(&[1, 2, 0]) else {
-        return Err(Fail::new("no vertex"));
-    };
+    let one = Vertex::new(&[1, 2]).ok_or("no vertex")?;
+    let other = Vertex::new(&[1, 2, 0]).ok_or("no vertex")?;
     let mut places = [one; 3];
     let mut listed = Listed::over(&mut places, 2);
     assert_eq!(rt; listed.find(&other), None);
-    assert_eq!(rt; listed.append(other), true);
+    assert_eq!(rt; listed.append(other), Ok(()));
     assert_eq!(rt; listed.find(&other), Some(2));
-    assert_eq!(rt; listed.append(one), false);
+    assert_eq!(rt; listed.append(one), Err(Refusal::NoPlaceUnused));
     assert_eq!(rt; listed.count(), 3);
     assert_eq!(rt; places, [one, one, other]);
     Ok(())
@@ -42,20 +38,18 @@ fn a_list_uses_no_more_places_than_the_slice_has(rt: HostRuntime) {
     let mut places = [road[0], road[1]];
     let mut listed = Listed::over(&mut places, 3);
     assert_eq!(rt; listed.count(), 2);
-    assert_eq!(rt; listed.append(road[2]), false);
+    assert_eq!(rt; listed.append(road[2]), Err(Refusal::NoPlaceUnused));
     assert_eq!(rt; listed.count(), 2);
     assert_eq!(rt; listed.find(&road[2]), None);
 }
 
 #[test]
 fn append_uses_65535_places_and_no_more(rt: HostRuntime) -> Result<(), Fail> {
-    let Some(vertex) = Vertex::new(&[1, 2]) else {
-        return Err(Fail::new("no vertex"));
-    };
+    let vertex = Vertex::new(&[1, 2]).ok_or("no vertex")?;
     let mut places = vec![in rt.alloc(); vertex; 65536]?;
     let mut listed = Listed::over(places.as_mut_slice(), 65534);
-    assert_eq!(rt; listed.append(vertex), true);
-    assert_eq!(rt; listed.append(vertex), false);
+    assert_eq!(rt; listed.append(vertex), Ok(()));
+    assert_eq!(rt; listed.append(vertex), Err(Refusal::NoPlaceUnused));
     assert_eq!(rt; listed.count(), 65535);
     Ok(())
 }

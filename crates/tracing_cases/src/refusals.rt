@@ -1,6 +1,8 @@
 // What step refuses: neither the trace nor the list changes, and the pair does not count.
-use crate::setting::{EMPTY, WORKED, answer, cell, edge_record, numbers, worked_road, worked_seed};
-use cells::CellRecord;
+use crate::setting::{
+    EMPTY, answer, edge_record, numbers, table_of, worked_road, worked_seed, worked_table,
+};
+use cells::{Cell, CellRecord};
 use fields::{Field, Level, Table};
 use grid::{Cause, Fault, Frame, Refusal};
 use std::process::Abort;
@@ -16,10 +18,7 @@ fn is_refused<F: Field>(
 ) -> Result<(), Fail> {
     let before = trace.report();
     let kept = *list;
-    assert_eq!(rt;
-        trace.step(field, list, 1000),
-        answer(0, Ending::Refused(refusal))
-    );
+    assert_eq!(rt; trace.step(field, list, 1000), answer(0, Err(refusal)));
     assert_eq!(rt; trace.report(), before);
     assert_eq!(rt; *list, kept);
     Ok(())
@@ -34,12 +33,10 @@ fn stops_at_pair_4<F: Field, G: Field>(
 ) -> Result<(), Fail> {
     let seed = worked_seed()?;
     let mut list = [EMPTY; 5];
-    let Ok(mut trace) = Trace::plant(stopping, &seed, &mut list) else {
-        return Err(Fail::new("not planted"));
-    };
+    let mut trace = Trace::plant(stopping, &seed, &mut list)?;
     assert_eq!(rt;
         trace.step(stopping, &mut list, 1000),
-        answer(4, Ending::Refused(refusal))
+        answer(4, Err(refusal))
     );
     assert_eq!(rt; trace.report(), numbers(1, 0, 4, 4));
     is_refused(rt, &mut trace, stopping, &mut list, refusal)?;
@@ -47,7 +44,7 @@ fn stops_at_pair_4<F: Field, G: Field>(
     assert_eq!(rt; list[1], EMPTY);
     assert_eq!(rt;
         trace.step(whole, &mut list, 1000),
-        answer(26, Ending::Finished)
+        answer(26, Ok(Ending::Finished))
     );
     assert_eq!(rt; list, worked_road());
     Ok(())
@@ -55,9 +52,6 @@ fn stops_at_pair_4<F: Field, G: Field>(
 
 #[test]
 fn a_fault_at_a_tested_cell_is_told(rt: HostRuntime) -> Result<(), Fail> {
-    let Ok(frame) = Frame::new(2, 1, &[2, 1]) else {
-        return Err(Fail::new("refused"));
-    };
     let samples = [-32768, -1, 1, -1, 1, 3];
     let whole = [-3, -1, 1, -1, 1, 3];
     let fault = Fault {
@@ -67,17 +61,14 @@ fn a_fault_at_a_tested_cell_is_told(rt: HostRuntime) -> Result<(), Fail> {
     };
     stops_at_pair_4(
         &rt,
-        &Table::new(frame, &samples),
-        &Table::new(frame, &whole),
+        &table_of(&samples)?,
+        &table_of(&whole)?,
         Refusal::Faulty(fault),
     )
 }
 
 #[test]
 fn a_fault_of_a_layer_is_told_with_its_height(rt: HostRuntime) -> Result<(), Fail> {
-    let Ok(frame) = Frame::new(2, 1, &[2, 1]) else {
-        return Err(Fail::new("refused"));
-    };
     let samples = [-32767, 0, 2, 0, 2, 4];
     let whole = [-3, -1, 1, -1, 1, 3];
     let fault = Fault {
@@ -87,42 +78,34 @@ fn a_fault_of_a_layer_is_told_with_its_height(rt: HostRuntime) -> Result<(), Fai
     };
     stops_at_pair_4(
         &rt,
-        &Level::new(Table::new(frame, &samples), [1, 0, 0]),
-        &Table::new(frame, &whole),
+        &Level::new(table_of(&samples)?, [1, 0, 0]),
+        &table_of(&whole)?,
         Refusal::Faulty(fault),
     )
 }
 
 #[test]
 fn a_degenerate_cell_is_refused(rt: HostRuntime) -> Result<(), Fail> {
-    let Ok(frame) = Frame::new(2, 1, &[2, 1]) else {
-        return Err(Fail::new("refused"));
-    };
     let samples = [0, -1, 1, -1, 1, 3];
     let whole = [-3, -1, 1, -1, 1, 3];
     stops_at_pair_4(
         &rt,
-        &Table::new(frame, &samples),
-        &Table::new(frame, &whole),
+        &table_of(&samples)?,
+        &table_of(&whole)?,
         Refusal::Degenerate,
     )
 }
 
 #[test]
 fn a_short_list_is_refused_whatever_the_budget(rt: HostRuntime) -> Result<(), Fail> {
-    let Ok(frame) = Frame::new(2, 1, &[2, 1]) else {
-        return Err(Fail::new("refused"));
-    };
-    let table = Table::new(frame, &WORKED);
+    let table = worked_table()?;
     let seed = worked_seed()?;
     let mut list = [EMPTY; 5];
-    let Ok(mut trace) = Trace::plant(&table, &seed, &mut list) else {
-        return Err(Fail::new("not planted"));
-    };
+    let mut trace = Trace::plant(&table, &seed, &mut list)?;
     assert_eq!(rt; trace.step(&table, &mut list, 5).taken, 5);
     assert_eq!(rt; trace.report(), numbers(2, 0, 5, 5));
     let mut short = [list[0]];
-    let refused = answer(0, Ending::Refused(Refusal::NotThisList));
+    let refused = answer(0, Err(Refusal::NotThisList));
     assert_eq!(rt; trace.step(&table, &mut short, 0), refused);
     assert_eq!(rt; trace.step(&table, &mut short, 1000), refused);
     assert_eq!(rt; trace.report(), numbers(2, 0, 5, 5));
@@ -134,44 +117,34 @@ fn a_short_list_is_refused_whatever_the_budget(rt: HostRuntime) -> Result<(), Fa
 fn a_finished_trace_refuses_a_short_list_and_looks_at_nothing_else(
     rt: HostRuntime,
 ) -> Result<(), Fail> {
-    let Ok(frame) = Frame::new(2, 1, &[2, 1]) else {
-        return Err(Fail::new("refused"));
-    };
-    let table = Table::new(frame, &WORKED);
+    let table = worked_table()?;
     let seed = worked_seed()?;
     let mut list = [EMPTY; 5];
-    let Ok(mut trace) = Trace::plant(&table, &seed, &mut list) else {
-        return Err(Fail::new("not planted"));
-    };
+    let mut trace = Trace::plant(&table, &seed, &mut list)?;
     assert_eq!(rt; trace.step(&table, &mut list, 30).taken, 30);
     let mut short = [EMPTY; 4];
-    let refused = answer(0, Ending::Refused(Refusal::NotThisList));
+    let refused = answer(0, Err(Refusal::NotThisList));
     assert_eq!(rt; trace.step(&table, &mut short, 0), refused);
     assert_eq!(rt; trace.step(&table, &mut short, 1000), refused);
     assert_eq!(rt; short, [EMPTY; 4]);
     assert_eq!(rt; trace.report(), numbers(5, 5, 0, 30));
-    let finished = answer(0, Ending::Finished);
-    let none = Table::new(frame, &[]);
+    let finished = answer(0, Ok(Ending::Finished));
+    let none = table_of(&[])?;
     assert_eq!(rt; trace.step(&none, &mut [EMPTY; 5], 1000), finished);
     Ok(())
 }
 
 #[test]
 fn a_record_that_does_not_fit_is_refused_at_place_next(rt: HostRuntime) -> Result<(), Fail> {
-    let Ok(frame) = Frame::new(2, 1, &[2, 1]) else {
-        return Err(Fail::new("refused"));
-    };
-    let table = Table::new(frame, &WORKED);
+    let table = worked_table()?;
     let seed = worked_seed()?;
     let mut list = [EMPTY; 5];
-    let Ok(mut trace) = Trace::plant(&table, &seed, &mut list) else {
-        return Err(Fail::new("not planted"));
-    };
+    let mut trace = Trace::plant(&table, &seed, &mut list)?;
     assert_eq!(rt; trace.step(&table, &mut list, 6).taken, 6);
     assert_eq!(rt; trace.report(), numbers(2, 1, 0, 6));
     list[1] = EMPTY;
     is_refused(&rt, &mut trace, &table, &mut list, Refusal::DoesNotFit)?;
-    let spent = answer(0, Ending::Spent);
+    let spent = answer(0, Ok(Ending::Spent));
     assert_eq!(rt; trace.step(&table, &mut list, 0), spent);
     list[1] = edge_record(2, 1, [1, 2, 2]);
     // outside the box
@@ -192,18 +165,14 @@ fn cube_edge(labels: [u8; 7]) -> CellRecord {
 
 #[test]
 fn a_pair_that_the_cell_does_not_have_is_refused(rt: HostRuntime) -> Result<(), Fail> {
-    let Ok(frame) = Frame::new(3, 1, &[1, 1, 1]) else {
-        return Err(Fail::new("refused"));
-    };
+    let frame = Frame::new(3, 1, &[1, 1, 1])?;
     let table = Table::new(frame, &[-1, 1, 1, 1, 1, 1, 1, 1]);
-    let seed = cell(cube_edge([1, 2, 2, 2, 0, 0, 0]))?;
+    let seed = Cell::new(cube_edge([1, 2, 2, 2, 0, 0, 0]))?;
     let mut list = [EMPTY; 5];
-    let Ok(mut trace) = Trace::plant(&table, &seed, &mut list) else {
-        return Err(Fail::new("not planted"));
-    };
+    let mut trace = Trace::plant(&table, &seed, &mut list)?;
     assert_eq!(rt; seed.pairs(), 18);
     assert_eq!(rt; trace.step(&table, &mut list, 12).taken, 12);
-    let other = cell(cube_edge([1, 1, 2, 2, 0, 0, 0]))?;
+    let other = Cell::new(cube_edge([1, 1, 2, 2, 0, 0, 0]))?;
     assert_eq!(rt; other.pairs(), 12);
     list[0] = other.record();
     is_refused(&rt, &mut trace, &table, &mut list, Refusal::NotThisList)?;

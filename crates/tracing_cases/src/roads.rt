@@ -1,13 +1,14 @@
 // Roads from planting to sealing, in other dimensions than the worked one.
-use crate::setting::{EMPTY, cell};
+use crate::setting::EMPTY;
 use cells::{Cell, CellRecord};
 use crossing::lies_in;
 use fields::{Field, Quadric, Row, Table};
-use grid::Frame;
+use grid::{Frame, Refusal};
 use std::process::Abort;
 use std::test::Fail;
 use tracing::{Ending, Trace};
 
+// Other crates of tests write such rows too, since none can be imported; and a cell of an edge likewise.
 const NO_ROW: Row = Row {
     constant: 0,
     linear: [0; 6],
@@ -41,29 +42,17 @@ static THREE_ROWS: [[i16; 9]; 16] = [
     [3, 2, -4, -2, 1, -2, 0, -4, 2],
 ];
 
-// Copies the lines one after another.
-fn lay_out(lines: &[[i16; 9]], samples: &mut [i16]) {
-    let mut n = 0;
-    for i in 0..lines.len() {
-        for j in 0..9 {
-            if n < samples.len() {
-                samples[n] = lines[i][j];
-                n += 1;
-            }
-        }
-    }
-}
-
 // The pairs of the first `count` cells.
-fn summed_pairs(list: &[CellRecord], count: usize) -> Result<u32, Fail> {
+fn summed_pairs(list: &[CellRecord], count: usize) -> Result<u32, Refusal> {
     let mut sum = 0u32;
-    for i in 0..count.min(list.len()) {
-        sum = sum.saturating_add(cell(list[i])?.pairs());
+    for plain in list.iter().take(count) {
+        sum = sum.saturating_add(Cell::new(*plain)?.pairs());
     }
     Ok(sum)
 }
 
-// Lists the road of a seed to the end, and seals it: so many cells, and as many steps as these have pairs.
+// Lists the road of a seed to the end, and seals it: so many cells, and as many steps as these have pairs. What a test says stands
+// as parameters: a struct of them would be written out at each call.
 fn has_road<F: Field>(
     rt: &impl Abort,
     field: &F,
@@ -72,15 +61,11 @@ fn has_road<F: Field>(
     count: usize,
     steps: u32,
 ) -> Result<(), Fail> {
-    let seed = cell(plain)?;
-    let Ok(mut trace) = Trace::plant(field, &seed, list) else {
-        return Err(Fail::new("not planted"));
-    };
+    let seed = Cell::new(plain)?;
+    let mut trace = Trace::plant(field, &seed, list)?;
     let stepping = trace.step(field, list, 100_000);
-    assert!(rt; matches!(stepping.ending, Ending::Finished));
-    let Ok(sealed) = trace.seal() else {
-        return Err(Fail::new("not sealed"));
-    };
+    assert_eq!(rt; stepping.ending, Ok(Ending::Finished));
+    let sealed = trace.seal().map_err(|unsealed| unsealed.refusal)?;
     assert_eq!(rt; sealed.count(), count);
     assert_eq!(rt; sealed.steps(), steps);
     assert_eq!(rt; stepping.taken, steps);
@@ -89,13 +74,8 @@ fn has_road<F: Field>(
 }
 
 fn has_inside(rt: &impl Abort, frame: &Frame, listed: &Cell, number: u32) -> Result<(), Fail> {
-    match listed.cofacet(number) {
-        Ok(cofacet) => {
-            assert!(rt; lies_in(frame, &cofacet));
-            Ok(())
-        },
-        Err(_) => Err(Fail::new("no cofacet")),
-    }
+    assert!(rt; lies_in(frame, &listed.cofacet(number)?));
+    Ok(())
 }
 
 // Both cofacets of each of the first `count` cells lie in the box.
@@ -105,8 +85,8 @@ fn stays_inside(
     list: &[CellRecord],
     count: usize,
 ) -> Result<(), Fail> {
-    for i in 0..count.min(list.len()) {
-        let listed = cell(list[i])?;
+    for plain in list.iter().take(count) {
+        let listed = Cell::new(*plain)?;
         assert_eq!(rt; listed.cofacets(), 2);
         has_inside(rt, frame, &listed, 0)?;
         has_inside(rt, frame, &listed, 1)?;
@@ -116,9 +96,7 @@ fn stays_inside(
 
 #[test]
 fn a_ring_in_three_axes_has_ten_cells_and_stays_inside(rt: HostRuntime) -> Result<(), Fail> {
-    let Ok(frame) = Frame::new(3, 2, &[4, 4, 2]) else {
-        return Err(Fail::new("refused"));
-    };
+    let frame = Frame::new(3, 2, &[4, 4, 2])?;
     let ring = Row {
         constant: 15,
         linear: [-8, -8, 0, 0, 0, 0],
@@ -149,28 +127,23 @@ fn a_ring_in_three_axes_has_ten_cells_and_stays_inside(rt: HostRuntime) -> Resul
 
 #[test]
 fn a_surface_in_three_axes_has_four_cells(rt: HostRuntime) -> Result<(), Fail> {
-    let Ok(frame) = Frame::new(3, 1, &[2, 4, 2]) else {
-        return Err(Fail::new("refused"));
-    };
+    let frame = Frame::new(3, 1, &[2, 4, 2])?;
     let seed = CellRecord {
         d: 3,
         l: 1,
         base: [1, 3, 0, 0, 0, 0],
         labels: [1, 1, 2, 2, 0, 0, 0],
     };
-    let mut samples = [0; 45];
-    lay_out(&SURFACE, &mut samples);
+    let samples = SURFACE.as_flattened();
     let mut list = [EMPTY; 6];
-    has_road(&rt, &Table::new(frame, &samples), seed, &mut list, 4, 66)
+    has_road(&rt, &Table::new(frame, samples), seed, &mut list, 4, 66)
 }
 
 #[test]
 fn a_surface_around_a_vertex_in_four_axes_has_the_30_edges_there(
     rt: HostRuntime,
 ) -> Result<(), Fail> {
-    let Ok(frame) = Frame::new(4, 1, &[2, 2, 2, 2]) else {
-        return Err(Fail::new("refused"));
-    };
+    let frame = Frame::new(4, 1, &[2, 2, 2, 2])?;
     let ball = Row {
         constant: 15,
         linear: [-8; 6],
@@ -195,17 +168,14 @@ fn a_surface_around_a_vertex_in_four_axes_has_the_30_edges_there(
 
 #[test]
 fn a_road_of_three_rows_in_four_axes_has_four_cells(rt: HostRuntime) -> Result<(), Fail> {
-    let Ok(frame) = Frame::new(4, 3, &[2, 1, 3, 1]) else {
-        return Err(Fail::new("refused"));
-    };
+    let frame = Frame::new(4, 3, &[2, 1, 3, 1])?;
     let seed = CellRecord {
         d: 4,
         l: 3,
         base: [1, 0, 1, 0, 0, 0],
         labels: [3, 4, 1, 2, 4, 0, 0],
     };
-    let mut samples = [0; 144];
-    lay_out(&THREE_ROWS, &mut samples);
+    let samples = THREE_ROWS.as_flattened();
     let mut list = [EMPTY; 6];
-    has_road(&rt, &Table::new(frame, &samples), seed, &mut list, 4, 40)
+    has_road(&rt, &Table::new(frame, samples), seed, &mut list, 4, 40)
 }

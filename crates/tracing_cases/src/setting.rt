@@ -1,8 +1,10 @@
 // Cells, lists and answers for the cases.
 use cells::{Cell, CellRecord};
-use std::test::Fail;
+use fields::Table;
+use grid::{Frame, Refusal};
 use tracing::{Ending, Report, Stepping};
 
+// No cell, as what stands in an unused place. A program has its own, since neither crate can be imported.
 pub const EMPTY: CellRecord = CellRecord {
     d: 0,
     l: 0,
@@ -14,19 +16,22 @@ pub const EMPTY: CellRecord = CellRecord {
 // tested for the list has number 0 and 4.
 pub static WORKED: [i16; 6] = [-3, -1, 1, -1, 1, 3];
 
+// A table over the box of the worked road.
+pub fn table_of(samples: &[i16]) -> Result<Table<'_>, Refusal> {
+    Ok(Table::new(Frame::new(2, 1, &[2, 1])?, samples))
+}
+
+pub fn worked_table() -> Result<Table<'static>, Refusal> {
+    table_of(&WORKED)
+}
+
 pub fn edge_record(x: i32, y: i32, labels: [u8; 3]) -> CellRecord {
+    let [first, second, third] = labels;
     CellRecord {
         d: 2,
         l: 1,
         base: [x, y, 0, 0, 0, 0],
-        labels: [labels[0], labels[1], labels[2], 0, 0, 0, 0],
-    }
-}
-
-pub fn cell(plain: CellRecord) -> Result<Cell, Fail> {
-    match Cell::new(plain) {
-        Ok(cell) => Ok(cell),
-        Err(_) => Err(Fail::new("no cell")),
+        labels: [first, second, third, 0, 0, 0, 0],
     }
 }
 
@@ -41,11 +46,11 @@ pub fn worked_road() -> [CellRecord; 5] {
     ]
 }
 
-pub fn worked_seed() -> Result<Cell, Fail> {
-    cell(worked_road()[0])
+pub fn worked_seed() -> Result<Cell, Refusal> {
+    Cell::new(worked_road()[0])
 }
 
-pub fn answer(taken: u32, ending: Ending) -> Stepping {
+pub fn answer(taken: u32, ending: Result<Ending, Refusal>) -> Stepping {
     Stepping { taken, ending }
 }
 

@@ -1,18 +1,16 @@
 // The cofacets of a cell.
-ghost use Rattle.std.specs.Prelude.{◌≡◌, ◌<◌, ◌≤◌, true, ◌&&◌, length, pos, ◌-ℤ◌, IfOk, if◌then◌else◌};
+ghost use Rattle.std.specs.Prelude.{◌≡◌, ◌<◌, ◌≤◌, true, length, pos, ◌-ℤ◌, IfOk, if◌then◌else◌};
 ghost use Rattle.grid.specs.Below.{table};
 ghost use Rattle.grid.specs.Refusals.{answered};
-ghost use Rattle.cells.specs.Cofacets.{cofacet_answer, cofacet_base, cofacet_by, cofacet_label, split_part, turned_part, turns};
+ghost use Rattle.cells.specs.Cofacets.{cofacet_answer, cofacet_base, cofacet_by, cofacet_label, split_part, turned_part};
 ghost use Rattle.cells.specs.Faces.{AllCofacets, CofacetLaws};
-ghost use Rattle.cells.specs.Records.{label};
-ghost use Rattle.cells.specs.Splits.{in_b, splits};
+ghost use Rattle.cells.specs.Splits.{splits};
 ghost use Rattle.cells.specs.World.{in_world};
 
 use super::Cell;
 use super::calls::made;
-use crate::checks::is_placed;
 use crate::records::CellRecord;
-use crate::splits::{Split, count_splits, holds, nth_split};
+use crate::splits::Split;
 use grid::Refusal;
 
 impl Cell {
@@ -22,7 +20,7 @@ impl Cell {
         ensures all { AllCofacets self.now.plain }
         ensures small { result ≤ 882 }
     {
-        count_splits(&self.plain)
+        self.count_splits()
     }
 
     // Cofacet c, by the part that is split and then by the code of A.
@@ -30,36 +28,62 @@ impl Cell {
         ensures answer { answered (λ t. t.plain) result ≡ cofacet_answer self.now.plain c }
         ensures laws { IfOk result (λ t. CofacetLaws self.now.plain c t.plain) }
     {
-        let Some(split) = nth_split(&self.plain, c) else {
-            return Err(Refusal::NoSuchNumber);
-        };
-        let plain = cofacet_record(self, split);
-        if !is_placed(&plain) {
+        let split = self.nth_split(c).ok_or(Refusal::NoSuchNumber)?;
+        let plain = self.cofacet_record(split);
+        if !plain.is_placed() {
             return Err(Refusal::LeavesTheWorld);
         }
         Ok(made(plain))
     }
-}
 
-fn cofacet_record(cell: &Cell, split: Split) -> CellRecord
-    ensures { result ≡ cofacet_by cell.now.plain split.part split.code }
-{
-    CellRecord {
-        d: cell.plain.d,
-        l: cell.plain.l + 1,
-        base: cofacet_base(cell, split),
-        labels: cofacet_labels(cell, split),
+    fn cofacet_record(&self, split: Split) -> CellRecord
+        ensures { result ≡ cofacet_by self.now.plain split.part split.code }
+    {
+        CellRecord {
+            d: self.plain.d,
+            l: self.plain.l + 1,
+            base: self.cofacet_base(split),
+            labels: self.cofacet_labels(split),
+        }
     }
-}
 
-fn cofacet_base(cell: &Cell, split: Split) -> [i32; 6]
-    ensures { result ≡ table 6 (cofacet_base cell.now.plain split.part split.code) }
-{
-    let mut base = [0; 6];
-    for j in 0..6 {
-        base[j] = lowered(cell.plain.base[j], goes_down(&cell.plain, split, j));
+    fn cofacet_base(&self, split: Split) -> [i32; 6]
+        ensures { result ≡ table 6 (cofacet_base self.now.plain split.part split.code) }
+    {
+        std::array::from_fn(|j| self.cofacet_base_at(split, j))
     }
-    base
+
+    // Where A has the number d + 1, the base goes down along the axes of B.
+    #[tactic(auto, using(crate::proofs::Ascending::read_in_world))]
+    fn cofacet_base_at(&self, split: Split, j: usize) -> i32
+        requires { j < 6 }
+        ensures { result ≡ cofacet_base self.now.plain split.part split.code j }
+    {
+        let turns = split.holds(usize::from(self.plain.d));
+        lowered(
+            self.plain.base[j],
+            turns && self.plain.labels[j] == split.part && !split.holds(j),
+        )
+    }
+
+    fn cofacet_labels(&self, split: Split) -> [u8; 7]
+        ensures { result ≡ table 7 (cofacet_label self.now.plain split.part split.code) }
+    {
+        std::array::from_fn(|j| self.cofacet_label(split, j))
+    }
+
+    #[tactic(auto, using(crate::proofs::Ascending::label_small))]
+    fn cofacet_label(&self, split: Split, j: usize) -> u8
+        requires { j < 7 }
+        ensures { result ≡ cofacet_label self.now.plain split.part split.code j }
+    {
+        let is_a = split.holds(j);
+        if split.holds(usize::from(self.plain.d)) {
+            turned_part(split.part, is_a, self.plain.labels[j])
+        } else {
+            split_part(split.part, is_a, self.plain.labels[j])
+        }
+    }
 }
 
 fn lowered(x: i32, down: bool) -> i32
@@ -67,39 +91,6 @@ fn lowered(x: i32, down: bool) -> i32
     ensures { result ≡ x -ℤ pos (if down then 1 else 0) }
 {
     if down { x - 1 } else { x }
-}
-
-// Whether A has the number d + 1 and B the one at place j.
-fn goes_down(r: &CellRecord, split: Split, j: usize) -> bool
-    requires place { j < 7 }
-    requires axes { r.now.d ≤ 6 }
-    ensures { result ≡ (turns r.now split.code && in_b r.now split.part split.code j) }
-{
-    holds(split.code, r.d as usize) && r.labels[j] == split.part && !holds(split.code, j)
-}
-
-fn cofacet_labels(cell: &Cell, split: Split) -> [u8; 7]
-    ensures { result ≡ table 7 (cofacet_label cell.now.plain split.part split.code) }
-{
-    let mut labels = [0; 7];
-    for j in 0..7 {
-        labels[j] = cofacet_label(&cell.plain, split, j);
-    }
-    labels
-}
-
-fn cofacet_label(r: &CellRecord, split: Split, j: usize) -> u8
-    requires place { j < 7 }
-    requires axes { r.now.d ≤ 6 }
-    requires part { label r.now j ≤ 7 }
-    ensures { result ≡ cofacet_label r.now split.part split.code j }
-{
-    let is_a = holds(split.code, j);
-    if holds(split.code, r.d as usize) {
-        turned_part(split.part, is_a, r.labels[j])
-    } else {
-        split_part(split.part, is_a, r.labels[j])
-    }
 }
 
 // B becomes part 1, and the others follow with A last.

@@ -11,11 +11,9 @@ impl fmt::Display for Cell {
     ghost output = { λ c. Some (cell_text c.plain) };
 
     fn fmt<W: fmt::Write>(&self, f: &mut fmt::Formatter<W>) -> fmt::Result {
-        let Some(base) = self.vertex(0) else {
-            return Err(fmt::Error);
-        };
+        let base = self.vertex(0).unwrap();
         let labels = Digits {
-            numbers: &self.plain.labels[0..self.plain.d as usize + 1],
+            numbers: &self.plain.labels[..=usize::from(self.plain.d)],
         };
         write!(f, "{base} {labels}")
     }
@@ -35,6 +33,7 @@ impl fmt::Display for Digits<'_> {
     }
 }
 
+// Not one function with the writer of spaced numbers in grid: that one writes i32 with spaces between, and is private to another crate.
 fn write_digits<W: fmt::Write>(f: &mut fmt::Formatter<W>, numbers: &[u8]) -> fmt::Result
     ensures { WritesOnOk W.Write.write_str_gives f.old result (flat_map decimal numbers.now) f.new }
 {

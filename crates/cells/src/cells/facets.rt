@@ -6,7 +6,7 @@ ghost use Rattle.cells.specs.Faces.{FacetLaws};
 ghost use Rattle.cells.specs.Facets.{facet_answer, facet_label, facet_of, facet_part};
 
 use super::Cell;
-use super::calls::{coordinates, made};
+use super::calls::made;
 use crate::records::CellRecord;
 use grid::Refusal;
 
@@ -19,39 +19,35 @@ impl Cell {
         if self.dimension() == 0 || i > u32::from(self.dimension()) {
             return Err(Refusal::NoSuchNumber);
         }
-        Ok(without_vertex(self, i as u8))
+        Ok(self.without_vertex(i as u8))
     }
-}
 
-fn without_vertex(cell: &Cell, i: u8) -> Cell
-    requires some { 1 ≤ cell.now.plain.l }
-    requires vertex { i ≤ cell.now.plain.l }
-    ensures same { result.plain ≡ facet_of cell.now.plain i }
-    ensures laws { FacetLaws cell.now.plain i result.plain }
-{
-    made(CellRecord {
-        d: cell.plain.d,
-        l: cell.plain.l - 1,
-        base: coordinates(cell, first_kept(i)),
-        labels: facet_labels(&cell.plain, i),
-    })
+    fn without_vertex(&self, i: u8) -> Cell
+        requires some { 1 ≤ self.now.plain.l }
+        requires vertex { i ≤ self.now.plain.l }
+        ensures same { result.plain ≡ facet_of self.now.plain i }
+        ensures laws { FacetLaws self.now.plain i result.plain }
+    {
+        made(CellRecord {
+            d: self.plain.d,
+            l: self.plain.l - 1,
+            base: self.coordinates(first_kept(i)),
+            labels: self.facet_labels(i),
+        })
+    }
+
+    fn facet_labels(&self, i: u8) -> [u8; 7]
+        ensures { result ≡ table 7 (facet_label self.now.plain i) }
+    {
+        self.plain.labels.map(|x| facet_label(self.plain.l, i, x))
+    }
 }
 
 // The first vertex that is kept.
 fn first_kept(i: u8) -> u8
     ensures { result ≡ (if nat_eq i 0 then 1 else 0) }
 {
-    if i == 0 { 1 } else { 0 }
-}
-
-fn facet_labels(r: &CellRecord, i: u8) -> [u8; 7]
-    ensures { result ≡ table 7 (facet_label r.now i) }
-{
-    let mut labels = [0; 7];
-    for j in 0..7 {
-        labels[j] = facet_label(r.l, i, r.labels[j]);
-    }
-    labels
+    u8::from(i == 0)
 }
 
 // Where the numbers of part x are in facet i of a cell of dimension l.

@@ -11,7 +11,7 @@ impl Cell {
     pub fn pairs(&self) -> u32
         ensures { result ≡ pair_count self.now.plain }
     {
-        self.cofacets() * cofacet_vertices(self)
+        self.cofacets() * self.cofacet_vertices()
     }
 
     // Pair n: the number of its cofacet, and the vertex of the cofacet that is left out.
@@ -21,16 +21,17 @@ impl Cell {
         if n >= self.pairs() {
             return Err(Refusal::NoSuchNumber);
         }
-        Ok(taken_apart(n, cofacet_vertices(self)))
+        Ok(taken_apart(n, self.cofacet_vertices()))
     }
-}
 
-// How many vertices a cofacet of the cell has.
-fn cofacet_vertices(cell: &Cell) -> u32
-    ensures value { result ≡ cell.now.plain.l + 2 }
-    ensures range { (0 < result) × (result ≤ 8) }
-{
-    u32::from(cell.dimension()) + 2
+    // How many vertices a cofacet of the cell has.
+    fn cofacet_vertices(&self) -> u32
+        ensures value { result ≡ self.now.plain.l + 2 }
+        ensures low { 0 < result }
+        ensures high { result ≤ 8 }
+    {
+        u32::from(self.dimension()) + 2
+    }
 }
 
 // A pair number as cofacet number and vertex, where cofacets have this many vertices.

@@ -27,36 +27,21 @@ impl Frame {
         if !self.contains(vertex) {
             return None;
         }
-        Some(place_of(self, vertex))
+        Some(place_number(self.sides(), vertex.coordinates()))
     }
 }
 
 fn is_on_axis(side: u16, x: i32) -> bool
     ensures { result ≡ on_axis side x }
 {
-    0 <= x && x <= side as i32
+    (0..=i32::from(side)).contains(&x)
 }
 
 fn are_on_axes(sides: &[u16], at: &[i32]) -> bool
     requires { length at.now ≡ length sides.now }
     ensures { result ≡ all_below (axis_has sides.now at.now) (length sides.now) }
 {
-    for j in 0..sides.len() {
-        if !is_on_axis(sides[j], at[j]) {
-            return false;
-        }
-    }
-    true
-}
-
-// The number of a vertex that is in the box.
-fn place_of(frame: &Frame, vertex: &Vertex) -> u64
-    requires { in_box (sides_of frame.now) (coordinates_of vertex.now) ≡ true }
-    ensures place { result ≡ place_number (sides_of frame.now) (coordinates_of vertex.now) }
-    ensures below { result < vertex_count (sides_of frame.now) }
-    ensures own { OnlyNumber (sides_of frame.now) vertex.now result }
-{
-    place_number(frame.sides(), vertex.coordinates())
+    sides.iter().zip(at).all(|(side, x)| is_on_axis(*side, *x))
 }
 
 // The number of a vertex along the axes from one on, from its number along those after it.
@@ -68,15 +53,15 @@ fn stacked(side: u16, x: i32, after: u64) -> u64
     u64::from(x.unsigned_abs()) + (u64::from(side) + 1) * after
 }
 
+// The number of a vertex of the box, or 0 when no axis is left.
 fn place_number(sides: &[u16], at: &[i32]) -> u64
     requires within { in_box sides.now at.now ≡ true }
     requires axes { length sides.now ≤ 6 }
     requires short { (j : ℕ) → j < length sides.now → slice_index sides.now j ≤ 1000 }
     ensures { result ≡ place_number sides.now at.now }
 {
-    let mut number = 0;
-    for j in (0..sides.len()).rev() {
-        number = stacked(sides[j], at[j], number);
+    match (sides, at) {
+        ([side, sides @ ..], [x, at @ ..]) => stacked(*side, *x, place_number(sides, at)),
+        _ => 0,
     }
-    number
 }

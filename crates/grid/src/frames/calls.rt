@@ -35,25 +35,34 @@ impl Frame {
     pub fn with_sides_of(&self, other: &Frame) -> Frame
         ensures { frame_numbers result ≡ record { d = self.now.d; k = self.now.k; sides = fitted_sides self.now.d (sides_of other.now) } }
     {
-        let sides = fitted(other);
-        kept(self.d, self.k, &sides[0..self.d as usize])
+        let sides = other.fitted();
+        kept(self.d, self.k, &sides[..usize::from(self.d)])
     }
 
     // The d sides, axis by axis.
     pub fn sides(&self) -> &[u16]
         ensures { result.now ≡ sides_of self.now }
     {
-        &self.sides[0..self.d as usize]
+        &self.sides[..usize::from(self.d)]
+    }
+
+    // The sides, and 1 in the places past them.
+    fn fitted(&self) -> [u16; 6]
+        ensures { result ≡ sides_of self.now ++ replicate (6 - length (sides_of self.now)) 1 }
+    {
+        padded(self.sides(), 1)
     }
 }
 
+// The three numbers stand apart up to here: a frame is what joins them.
 fn is_frame(d: u8, k: u8, sides: &[u16]) -> bool
     ensures { result ≡ is_frame d k sides.now }
 {
-    if d < 2 || d > 6 || k < 1 || k > 3 || k >= d {
-        return false;
-    }
-    sides.len() == d as usize && are_sides(sides)
+    (2..=6).contains(&d)
+        && (1..=3).contains(&k)
+        && k < d
+        && sides.len() == usize::from(d)
+        && are_sides(sides)
 }
 
 fn kept(d: u8, k: u8, sides: &[u16]) -> Frame
@@ -67,26 +76,14 @@ fn kept(d: u8, k: u8, sides: &[u16]) -> Frame
     }
 }
 
-// The sides of a frame, and 1 in the places past them.
-fn fitted(frame: &Frame) -> [u16; 6]
-    ensures { result ≡ sides_of frame.now ++ replicate (6 - length (sides_of frame.now)) 1 }
-{
-    padded(frame.sides(), 1)
-}
-
 fn is_side(side: u16) -> bool
     ensures { result ≡ is_side side }
 {
-    1 <= side && side <= 1000
+    (1..=1000).contains(&side)
 }
 
 fn are_sides(sides: &[u16]) -> bool
     ensures { result ≡ all_below (side_ok sides.now) (length sides.now) }
 {
-    for side in sides {
-        if !is_side(*side) {
-            return false;
-        }
-    }
-    true
+    sides.iter().all(|side| is_side(*side))
 }

@@ -24,24 +24,24 @@ impl Trace {
         if list.is_empty() {
             return Err(Refusal::EmptyList);
         }
-        let trace = begun(field, seed)?;
+        let trace = Trace::begun(field, seed)?;
         list[0] = seed.record();
         Ok(trace)
     }
-}
 
-// The trace of a seed before its first step.
-fn begun<F: Field>(field: &F, seed: &Cell) -> Result<Trace, Refusal>
-    ensures { answered trace_numbers result ≡ seeded (test_answer (F.Field.meaning field.now) seed.now.plain) }
-{
-    match class_over(field, seed)? {
-        Class::Crossed => Ok(Trace {
-            count: 1,
-            next: 0,
-            pair: 0,
-            steps: 0,
-        }),
-        Class::Clear => Err(Refusal::ClearSeed),
-        Class::Degenerate => Err(Refusal::Degenerate),
+    // The trace of a seed before its first step.
+    fn begun<F: Field>(field: &F, seed: &Cell) -> Result<Trace, Refusal>
+        ensures { answered trace_numbers result ≡ seeded (test_answer (F.Field.meaning field.now) seed.now.plain) }
+    {
+        match class_over(field, seed)? {
+            Class::Crossed => Ok(Trace {
+                count: 1,
+                next: 0,
+                pair: 0,
+                steps: 0,
+            }),
+            Class::Clear => Err(Refusal::ClearSeed),
+            Class::Degenerate => Err(Refusal::Degenerate),
+        }
     }
 }

@@ -25,7 +25,7 @@ impl Trace {
         ensures answer { sealing_of result ≡ seal_answer (trace_numbers self) }
         ensures law { LawOf (trace_numbers self) }
     {
-        if !is_finished(&self) {
+        if !self.is_finished() {
             return Err(Unsealed {
                 trace: self,
                 refusal: Refusal::NotFinished,
@@ -36,12 +36,12 @@ impl Trace {
             steps: self.steps,
         })
     }
-}
 
-// Whether all listed cells are worked off.
-fn is_finished(trace: &Trace) -> bool
-    ensures is { result ≡ (trace.now.next == trace.now.count) }
-    ensures law { LawOf (trace_numbers trace.now) }
-{
-    trace.next == trace.count
+    // Whether all listed cells are worked off.
+    pub(crate) fn is_finished(&self) -> bool
+        ensures is { result ≡ (self.now.next == self.now.count) }
+        ensures law { LawOf (trace_numbers self.now) }
+    {
+        self.next == self.count
+    }
 }

@@ -1,5 +1,4 @@
-use Rattle.std.proofs.Common.{◌≡◌, ℕ, true, cond, List, length, get_or, take, ℤ, pos, ◌+ℤ◌, Some, None, sym, ap, ◌∙◌}
-use native.Mathlib.Nat.{sub-zero}
+use Rattle.std.proofs.Common.{◌≡◌, ℕ, true, cond, List, length, get_or, ℤ, pos, ◌+ℤ◌, Some, None, sym, ap, ◌∙◌}
 use Rattle.std.proofs.lemmas.Bool.{cond-true}
 use Rattle.grid.specs.Boxes.{in_box}
 use Rattle.grid.specs.Frames.{sides_of}
@@ -7,7 +6,7 @@ use Rattle.grid.specs.Vertices.{coordinates_of, vertex_answer}
 use Rattle.grid.specs.declared.frames.Frame.{Frame}
 use Rattle.grid.proofs.Below.{length-table}
 use Rattle.grid.proofs.Framed.{length-sides}
-use Rattle.grid.proofs.Places.{box_short, in_box_lem}
+use Rattle.grid.proofs.Places.{in_box_lem}
 use Rattle.grid.proofs.Vertexes.{vertex_taken}
 use Rattle.fields.specs.Windows.{plus_corner}
 use Rattle.fields.proofs.windows.moved.Goals as goal
@@ -18,17 +17,8 @@ sum_taken f v cs h =
     vertex_taken (plus_corner v cs) f.d long f.d_low f.d_high
     ∙ sym (cond-true (in_box (sides_of f) v) (Some (plus_corner v cs)) None h)
 
-pub plus_corner-sums-requires : goal.plus_corner-sums-requires
-plus_corner-sums-requires c =
-    let b = box_short c.args.frame.now (coordinates_of c.args.vertex.now) (sym c.if-not-contains.ensures) in
-    record { axes = rw c.coordinates-at.ensures b.0; on_axes = rw c.coordinates-at.ensures b.1 }
-
 pub returns : goal.returns
 returns c =
-    let at = c.coordinates-at.result.now in
-    let cs = c.args.corner.now in
-    c.new.ensures.answer
-    ∙ ap (λ n. vertex_answer (take n c.plus_corner-sums.result)) (sub-zero (length at))
-    ∙ ap vertex_answer c.plus_corner-sums.ensures
-    ∙ ap (λ v. vertex_answer (plus_corner v cs)) c.coordinates-at.ensures
-    ∙ sum_taken c.args.frame.now (coordinates_of c.args.vertex.now) cs (sym c.if-not-contains.ensures)
+    c.plus.ensures
+    ∙ ap (λ v. vertex_answer (plus_corner v c.args.corner.now)) c.new.ensures
+    ∙ sum_taken c.args.frame.now (coordinates_of c.args.vertex.now) c.args.corner.now (sym c.if-not-contains.ensures)

@@ -1,6 +1,7 @@
-use Rattle.std.proofs.Common.{decimal}
-use Rattle.grid.proofs.Printed.{Printed}
+use Rattle.std.proofs.Common.{decimal, take}
+use Rattle.std.specs.List.{flat_map}
+use Rattle.std.specs.Fmt.{HasWritten, IsPlainFormatter}
 use Rattle.cells.proofs.cells.display.write_digits.Given as goal
 
 abbrev pub invariant-loop-number : goal.invariant-loop-number
-invariant-loop-number g l = Printed g.W.Write.write_str_gives decimal l.numbers l.initial.f l.number-index l.f
+invariant-loop-number g l = IsPlainFormatter l.initial.f → HasWritten g.W.Write.write_str_gives l.initial.f (flat_map decimal (take l.number-index l.numbers)) l.f

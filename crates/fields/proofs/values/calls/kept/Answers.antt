@@ -1,36 +1,18 @@
-use Rattle.std.proofs.Common.{◌≡◌, ℕ, ◌≤◌, List, length, get_or, take, ℤ, pos, sym, refl, ap, ◌∙◌, arith, w16, w64, SFits, rules}
-use Rattle.std.proofs.lemmas.Int.{to_z-of_z}
-use Rattle.grid.proofs.Below.{table_from}
-use Rattle.grid.proofs.Filled.{Filled, filled_front, filled_more_signed, filled_none}
+use Rattle.std.proofs.Common.{◌≡◌, ◌≤◌, List, length, get_or, take, ℤ, pos, sym, refl, ap, ◌∙◌, rules}
+use Rattle.grid.specs.Below.{table}
+use Rattle.grid.proofs.Below.{cut-table, table_from}
+use Rattle.grid.proofs.Made.{table_made}
 use Rattle.fields.specs.Scale.{all_on_scale}
-use Rattle.fields.proofs.Scaled.{row_fits}
 use Rattle.fields.proofs.values.calls.kept.Goals as goal
 
--- the rows that were copied are the rows
-copied : (xs narrow : List ℤ) (r : ℕ) → length xs ≤ 3 → length xs ≤ r → Filled (pos 0) (λ j. get_or xs j (pos 0)) 3 narrow r → take (length xs) narrow ≡ xs
-copied xs narrow r h g f = filled_front (length xs) h g f ∙ sym (table_from (length xs) (λ j. get_or xs j (pos 0)) xs (pos 0) refl (λ _ _. refl))
-
-pub overflow_cast-narrow : goal.overflow_cast-narrow
-overflow_cast-narrow c =
-    let xs = c.args.rows.now in
-    let r = c.loop-r.r in
-    let wide : SFits w64 (get_or xs r (pos 0)) = search rules in
-    rw (to_z-of_z w64 (get_or xs r (pos 0)) wide) (row_fits xs r c.requires.on_scale c.loop-r-test.true)
-
-pub loop-r-init : goal.loop-r-init
-loop-r-init c = filled_none refl
-
-pub loop-r-preserved : goal.loop-r-preserved
-loop-r-preserved c =
-    let xs = c.args.rows.now in
-    let r = c.loop-r.r in
-    let wide : SFits w64 (get_or xs r (pos 0)) = search rules in
-    filled_more_signed w16 (omega (arith, c.requires.few)) (overflow_cast-narrow c) (to_z-of_z w64 (get_or xs r (pos 0)) wide) c.loop-r.invariant
+-- an array that holds the rows, and 0 past them, cut to the rows
+copied : (xs ys : List ℤ) → length xs ≤ 3 → ys ≡ table 3 (λ r. get_or xs r (pos 0)) → take (length xs) ys ≡ xs
+copied xs ys h e = ap (take (length xs)) e ∙ cut-table 3 (length xs) (λ r. get_or xs r (pos 0)) (pos 0) h ∙ sym (table_from (length xs) (λ r. get_or xs r (pos 0)) xs (pos 0) refl (λ _ _. refl))
 
 pub invariant_of-result : goal.invariant_of-result
 invariant_of-result c =
-    let xs = c.args.rows.now in
-    let e = copied xs c.loop-r.narrow c.loop-r.r c.requires.few c.loop-r-test.false c.loop-r.invariant in record { k_low = c.requires.some; k_high = c.requires.few; long = c.loop-r.invariant.long; on_scale = ap all_on_scale e ∙ c.requires.on_scale }
+    let made = table_made _ (λ r. get_or c.args.rows.now r (pos 0)) (pos 0) _ _ 3 c.from_fn.ensures.items (λ i y q h k. search rules) in
+    record { k_low = c.requires.some; k_high = c.requires.few; long = c.from_fn.ensures.items.long; on_scale = ap all_on_scale (copied c.args.rows.now _ c.requires.few made) ∙ c.requires.on_scale }
 
 pub returns : goal.returns
-returns c = copied c.args.rows.now c.loop-r.narrow c.loop-r.r c.requires.few c.loop-r-test.false c.loop-r.invariant
+returns c = copied c.args.rows.now _ c.requires.few (table_made _ (λ r. get_or c.args.rows.now r (pos 0)) (pos 0) _ _ 3 c.from_fn.ensures.items (λ i y q h k. search rules))

@@ -1,12 +1,10 @@
-use Rattle.std.proofs.Common.{sym, arith, rules}
-use Rattle.grid.proofs.Below.{all_none, all_more, all_false}
+use Rattle.std.proofs.Common.{rules, refl, ◌∙◌}
+use borrow.Author.Tests.{tests}
+use Rattle.std.proofs.lemmas.Iterator.{YieldsList-from_slice}
+use Rattle.std.proofs.lemmas.Iterator.Search.{all_from_yields_List}
+use Rattle.grid.specs.Frames.{is_side, side_ok}
+use Rattle.grid.proofs.Told.{list_all-below}
 use Rattle.grid.proofs.frames.calls.are_sides.Goals as goal
 
-pub loop-side-init : goal.loop-side-init
-loop-side-init c = all_none _
-
-pub loop-side-preserved : goal.loop-side-preserved
-loop-side-preserved c = search (rules, all_more)
-
-pub returns-then-not-is_side : goal.returns-then-not-is_side
-returns-then-not-is_side c = sym (all_false _ _ c.loop-side.side-index (omega arith) (grind arith))
+pub returns : goal.returns
+returns c = all_from_yields_List is_side _ _ _ c.all.ensures.ran (YieldsList-from_slice c.args.sides.now cc) (λ x b k h. search (rules, tests)) ∙ list_all-below is_side (side_ok c.args.sides.now) 0 c.args.sides.now (λ k lt. refl)
