@@ -51,7 +51,7 @@ impl<'a> Field for Table<'a> {
 
     // It ends as at a quadric and a level, but for the cause and what is computed: one function of the three would be no shorter.
     fn at(&self, vertex: &Vertex) -> Result<Values, Fault> {
-        // Asked first: it is a constant here, and of a closure that holds a table the check knows nothing.
+        // Asked outside the closure: inside it nothing would be known of the table.
         let height = self.height();
         let place = self.frame.number(vertex).ok_or_else(|| outside(height))?;
         self.sampled(place).ok_or_else(|| Fault {

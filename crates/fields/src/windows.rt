@@ -61,7 +61,7 @@ fn moved(frame: &Frame, vertex: &Vertex, corner: &[u16; 6]) -> Option<Vertex>
 }
 
 impl<'a> Inside<'a> {
-    // The vertex plus the corner: six sums, of which the coordinates' count.
+    // The vertex plus the corner. All six sums are made, and as many are kept as the vertex has coordinates.
     fn plus(&self, corner: &[u16; 6]) -> Option<Vertex>
         ensures { option_map coordinates_of result ≡ vertex_answer (plus_corner self.now.at.now corner.now) }
     {
