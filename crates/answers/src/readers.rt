@@ -9,6 +9,9 @@ use std::alloc::{AllocError, Global};
 use std::array;
 use std::num::TryFromIntError;
 
+// No frame and no vertex has more axes.
+const MOST_AXES: usize = 6;
+
 #[derive(Drop)]
 pub struct Reader<'a> {
     heap: Global,
@@ -69,8 +72,21 @@ impl<'a> Reader<'a> {
     pub fn list<T: TryFrom<i64, Error = TryFromIntError> + Drop>(
         &mut self,
     ) -> Result<Vec<T>, Stop> {
+        self.part()?.fitted()
+    }
+
+    // A list with a number for each axis. A longer one than any frame or vertex has is not taken into memory.
+    fn axes<T: TryFrom<i64, Error = TryFromIntError> + Drop>(&mut self) -> Result<Vec<T>, Stop> {
         let part = self.part()?;
-        part.rest
+        if part.rest.len() > MOST_AXES {
+            return Err(Stop::Unread);
+        }
+        part.fitted()
+    }
+
+    // All numbers that are left, if each fits.
+    fn fitted<T: TryFrom<i64, Error = TryFromIntError> + Drop>(&self) -> Result<Vec<T>, Stop> {
+        self.rest
             .iter()
             .map(|number| -> Result<T, Stop> { Ok(T::try_from(*number)?) })
             .try_collect(self.heap)
@@ -90,12 +106,12 @@ impl<'a> Reader<'a> {
     pub fn frame(&mut self) -> Result<Frame, Stop> {
         let d = self.number()?;
         let k = self.number()?;
-        let sides = self.list()?;
+        let sides = self.axes()?;
         Frame::new(d, k, sides.as_slice()).map_err(|_| Stop::Unread)
     }
 
     pub fn vertex(&mut self) -> Result<Vertex, Stop> {
-        let at = self.list()?;
+        let at = self.axes()?;
         Vertex::new(at.as_slice()).ok_or(Stop::Unread)
     }
 

@@ -1,9 +1,8 @@
 -- The splits of a cell: how many each part has, which one a number gives, and that no two are alike.
-use Rattle.std.proofs.Common.{◌≡◌, ℕ, zero, suc, ◌+◌, ◌-◌, ◌*◌, ◌^◌, ◌<◌, ◌≤◌, Bool, true, false, cond, eqb, length, get_or, take, refl, sym, ap, add-zero, ◌∙◌, subst, ap₂, add-one, arith, pow_mono}
+use Rattle.std.proofs.Common.{◌≡◌, ℕ, zero, suc, ◌+◌, ◌-◌, ◌*◌, ◌^◌, ◌<◌, ◌≤◌, Bool, true, false, cond, length, get_or, sym, ap, add-zero, ◌∙◌, subst, ap₂, add-one, arith, pow_mono}
 use Rattle.std.proofs.lemmas.List.{length-map, get_or-map}
-use Rattle.std.proofs.lemmas.List.{take_all}
-use Rattle.std.proofs.lemmas.List.Sums.{count_by_more_no, count_by_more_yes, sum_by-cons}
-use Rattle.std.specs.List.{count_by, range_with_len, sum_by}
+use Rattle.std.proofs.lemmas.List.Sums.{sum_by-cons}
+use Rattle.std.specs.List.{range_with_len, sum_by}
 use Rattle.cells.specs.Chosen.{chosen}
 use Rattle.cells.specs.Cells.{in_part, IsCell}
 use Rattle.cells.specs.Splits.{is_split, no_split, over_parts, part_size, split_at, split_by, splits, splits_of, splits_to}
@@ -52,18 +51,6 @@ count_le r (suc n) =
     let e = length_more r n in
     let k : length (splits_to r (n + 1)) ≤ 126 * (n + 1) = omega arith in
     rw (← add-one n) k
-
--- the labels that name a part, counted one by one
-counted_to : (r : CellRecord) (p n : ℕ) → n ≤ length r.labels → count_by (λ x. eqb x p) (take n r.labels) ≡ length (chosen (in_part r p) n)
-counted_to r p zero h = sym (chosen_none _)
-counted_to r p (suc n) h = rw (← add-one n) (go (in_part r p n) refl (counted_to r p n (omega arith)))
-  where
-    go : (b : Bool) → in_part r p n ≡ b → count_by (λ x. eqb x p) (take n r.labels) ≡ length (chosen (in_part r p) n) → count_by (λ x. eqb x p) (take (n + 1) r.labels) ≡ length (chosen (in_part r p) (n + 1))
-    go true e ih = count_by_more_yes (λ x. eqb x p) r.labels n 0 (omega arith) e ∙ ap (λ k. k + 1) ih ∙ sym (length-chosen_more (in_part r p) n ∙ ap (λ b. length (chosen (in_part r p) n) + cond b 1 0) e)
-    go false e ih = count_by_more_no (λ x. eqb x p) r.labels n 0 (omega arith) e ∙ ih ∙ sym (length-chosen_more (in_part r p) n ∙ ap (λ b. length (chosen (in_part r p) n) + cond b 1 0) e ∙ add-zero _)
-
-pub counted : (r : CellRecord) (p : ℕ) → length r.labels ≡ 7 → count_by (λ x. eqb x p) r.labels ≡ part_size r p
-counted r p e = ap (count_by (λ x. eqb x p)) (sym (take_all 7 r.labels (omega arith))) ∙ counted_to r p 7 (omega arith)
 
 -- the sum over the parts, from the first to the last
 summed_from : (r : CellRecord) (m n : ℕ) → length (splits_to r m) + sum_by (λ p. length (splits_of r p)) (range_with_len (m + 1) n) ≡ length (splits_to r (m + n))

@@ -57,10 +57,10 @@ answer_at m r i v e s =
     let q : v ≡ vertex_of r i = cc in
     ap (answer m) q ∙ cond-true _ _ _ ((fits_parts m.frame r e).inside i h)
 
--- a test of the vertices 0 to l that there are
-pub vertices_pass : (q : ℕ → Bool) (l n : ℕ) → n ≡ l + 1 → list_all (λ i. leb i l && q i) (range_with_len 0 n) ≡ all_below q (l + 1)
+-- a test of the first n vertices, all of which there are
+pub vertices_pass : (q : ℕ → Bool) (l n : ℕ) → n ≤ l + 1 → list_all (λ i. leb i l && q i) (range_with_len 0 n) ≡ all_below q n
 vertices_pass q l n e =
     list_all-below (λ i. leb i l && q i) q 0 (range_with_len 0 n) (λ k lt.
     let h : k < n = omega (arith, length-range_with_len 0 n) in
     ap (λ i. leb i l && q i) (get_or-range_with_len 0 n k 0 h ∙ zero-add k) ∙ ap (λ b. b && q k) (le-leb k l (omega arith)))
-    ∙ ap (all_below q) (length-range_with_len 0 n ∙ e)
+    ∙ ap (all_below q) (length-range_with_len 0 n)

@@ -1,7 +1,8 @@
 // Cells in the box of a field.
-ghost use Rattle.std.specs.Prelude.{◌≡◌, ◌+◌};
+ghost use Rattle.std.specs.Prelude.{◌≡◌, ◌+◌, ◌≤◌};
+ghost use Rattle.grid.specs.Below.{all_below};
 ghost use Rattle.grid.specs.Frames.{frame_numbers, sides_of};
-ghost use Rattle.crossing.specs.Boxes.{fits_frame, lies_in};
+ghost use Rattle.crossing.specs.Boxes.{fits_frame, lies_in, vertex_in};
 
 use cells::Cell;
 use grid::Frame;
@@ -19,11 +20,13 @@ pub fn fits(frame: &Frame, cell: &Cell) -> bool
 pub fn lies_in(frame: &Frame, cell: &Cell) -> bool
     ensures { result ≡ lies_in (sides_of frame.now) cell.now.plain }
 {
-    (0..vertex_count(cell)).all(|i| cell.vertex(i).is_some_and(|vertex| frame.contains(&vertex)))
+    are_vertices_in(frame, cell, u32::from(cell.dimension()) + 1)
 }
 
-fn vertex_count(cell: &Cell) -> u32
-    ensures { result ≡ cell.now.plain.l + 1 }
+// Whether the vertices 0 to n - 1 are in the box.
+fn are_vertices_in(frame: &Frame, cell: &Cell, n: u32) -> bool
+    requires { n ≤ cell.now.plain.l + 1 }
+    ensures { result ≡ all_below (vertex_in (sides_of frame.now) cell.now.plain) n }
 {
-    u32::from(cell.dimension()) + 1
+    (0..n).all(|i| cell.vertex(i).is_some_and(|vertex| frame.contains(&vertex)))
 }

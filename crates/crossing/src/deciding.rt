@@ -18,6 +18,7 @@ pub fn class_of(k: u8, values: &[i16]) -> Option<Class>
 }
 
 impl VertexValues {
+    #[inline(always)]
     pub(crate) fn class(&self) -> Class
         ensures is { result ≡ class_of self.now.k self.now.at }
         ensures laws { ClassLaws }

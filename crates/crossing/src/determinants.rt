@@ -8,13 +8,20 @@ use crate::matrices::VertexValues;
 
 impl VertexValues {
     // Entry i is the determinant without vertex i, with alternating sign. Those past k are not read.
+    #[inline(always)]
     pub(crate) fn signed_determinants(&self) -> [i64; 4]
         ensures { result ≡ table 4 (signed_determinant self.now.k (value self.now.at)) }
     {
-        std::array::from_fn(|i| alternated(i, self.without(i)))
+        // Filled in a loop: with `from_fn` the class of a matrix took four times as long where k is known.
+        let mut signed = [0; 4];
+        for (i, place) in signed.iter_mut().enumerate() {
+            *place = alternated(i, self.without(i));
+        }
+        signed
     }
 
     // The determinant of the k rows at all vertices but vertex i.
+    #[inline(always)]
     fn without(&self, i: usize) -> i64
         requires { i < 4 }
         ensures is { result ≡ determinant_of self.now.k (λ j. value self.now.at (passing_of i j)) }

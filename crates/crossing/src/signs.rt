@@ -15,6 +15,7 @@ impl Signs {
     ghost use Rattle.crossing.specs.Determinants.{by_signs, signs_below};
     ghost use Rattle.crossing.specs.Weights.{entry};
 
+    #[inline(always)]
     pub(crate) fn of(numbers: &[i64]) -> Signs
         ensures { result ≡ signs_below (entry numbers.now) (length numbers.now) }
     {

@@ -1,9 +1,9 @@
 -- The vertices of a box and their numbers: along each axis, a number is a digit below side + 1 and the number along the axes
 -- after it, so equal numbers have equal digits.
-use Rattle.std.proofs.Common.{◌≡◌, ℕ, suc, ◌+◌, ◌-◌, ◌*◌, ◌/◌, ◌%◌, ◌^◌, ◌<◌, ◌≤◌, Bool, true, false, cond, List, [], ◌∷◌, length, get_or, take, drop, ℤ, pos, negsuc, nat_abs, Some, None, sym, refl, ap, ◌∙◌, ap₂, mul-le-mul_right, mul_comm, add_comm, arith}
-use native.Mathlib.Nat.{pow-le-pow_right, pow-succ'}
+use Rattle.std.proofs.Common.{◌≡◌, ℕ, suc, ◌+◌, ◌-◌, ◌*◌, ◌/◌, ◌%◌, ◌^◌, ◌<◌, ◌≤◌, Bool, true, false, cond, List, [], ◌∷◌, ◌++◌, length, get_or, take, ℤ, pos, negsuc, nat_abs, Some, None, sym, refl, ap, ◌∙◌, ap₂, mul-le-mul_right, mul_comm, add_comm, add-one, arith}
+use native.Mathlib.Nat.{mul-add, mul-one, mul-zero, mul_assoc, one-mul, pow-le-pow_right, pow-succ'}
 use lib.Arith.{digits_div, digits_lt, digits_mod}
-use Rattle.std.proofs.lemmas.List.{take_rest}
+use Rattle.std.proofs.lemmas.List.{drop_all, drop_more, get_or-take, length-take-le, take-append-drop}
 use Rattle.std.proofs.lemmas.Bool.{eq-eqb}
 use Rattle.std.proofs.lemmas.Bool.Decides.{nat_tests}
 use Rattle.grid.specs.Below.{all_below}
@@ -106,10 +106,19 @@ count_most (s ∷ ss) h =
     let a : (s + 1) * vertex_count ss ≤ 1001 * vertex_count ss = mul-le-mul_right (vertex_count ss) (omega arith) in
     rw (pow-succ' 1001 (length ss)) (omega arith)
 
--- the axes after the first: a slice without its first place
+-- the axes before the last: a slice without its last place
 
-abbrev After : {X : Type 0} → List X → List X
-After xs = take (length xs - 1) (drop 1 xs)
+abbrev pub Before : {X : Type 0} → List X → List X
+Before xs = take (length xs - 1) xs
+
+pub length-before : {X : Type 0} (xs : List X) → length (Before xs) ≡ length xs - 1
+length-before xs = length-take-le (length xs - 1) xs (omega arith)
+
+before_last : {X : Type 0} (xs : List X) (o : X) → 1 ≤ length xs → xs ≡ Before xs ++ get_or xs (length xs - 1) o ∷ []
+before_last xs o h =
+    let more = drop_more xs (length xs - 1) o (omega arith) in
+    let none = drop_all (length xs - 1 + 1) xs (omega arith) in
+    sym (take-append-drop (length xs - 1) xs) ∙ ap (λ ys. Before xs ++ ys) (more ∙ ap (λ ys. get_or xs (length xs - 1) o ∷ ys) none)
 
 in_box_from : (sides : List ℕ) (v : List ℤ) → InBox sides v → in_box sides v ≡ true
 in_box_from sides v i =
@@ -117,23 +126,68 @@ in_box_from sides v i =
     let all = all_from (axis_has sides v) (length sides) i.each in
     grind (arith, n, all)
 
-pub in_box_after : (sides : List ℕ) (v : List ℤ) → 1 ≤ length sides → in_box sides v ≡ true → in_box (After sides) (After v) ≡ true
-in_box_after [] v h i = absurd (omega arith)
-in_box_after (s ∷ ss) [] h i = absurd (let e = (in_box_lem (s ∷ ss) [] i).axes in omega arith)
-in_box_after (s ∷ ss) (x ∷ xs) h i =
-    ap₂ in_box (take_rest (s ∷ ss) 1) (take_rest (x ∷ xs) 1) ∙ in_box_from ss xs (in_box_rest s ss x xs (in_box_lem (s ∷ ss) (x ∷ xs) i))
+pub in_box_before : (sides : List ℕ) (v : List ℤ) → in_box sides v ≡ true → in_box (Before sides) (Before v) ≡ true
+in_box_before sides v h =
+    let b = in_box_lem sides v h in
+    let axes = b.axes in
+    let long = length-before sides in
+    let wide = length-before v in
+    in_box_from (Before sides) (Before v) (record {
+      axes = omega arith;
+      each = λ j l.
+          let below : j < length sides - 1 = omega arith in
+          let near : j < length v - 1 = omega arith in
+          ap₂ on_axis (get_or-take (length sides - 1) sides j 0 below) (get_or-take (length v - 1) v j (pos 0) near) ∙ b.each j (omega arith);
+    })
 
-pub short_after : (sides : List ℕ) → ((j : ℕ) → j < length sides → get_or sides j 0 ≤ 1000) → (j : ℕ) → j < length (After sides) → get_or (After sides) j 0 ≤ 1000
-short_after [] h = λ j l. absurd (omega arith)
-short_after (s ∷ ss) h = rw (take_rest (s ∷ ss) 1) (λ j l. h (suc j) (omega arith))
+pub short_before : (sides : List ℕ) → ((j : ℕ) → j < length sides → get_or sides j 0 ≤ 1000) → (j : ℕ) → j < length (Before sides) → get_or (Before sides) j 0 ≤ 1000
+short_before sides h j l =
+    let long = length-before sides in
+    rw (get_or-take (length sides - 1) sides j 0 (omega arith)) (h j (omega arith))
 
--- the numbers along up to five axes
-pub five_below : (sides : List ℕ) (v : List ℤ) → length sides ≤ 5 → in_box sides v ≡ true → ((j : ℕ) → j < length sides → get_or sides j 0 ≤ 1000) → place_number sides v < 1001 ^ 5
-five_below sides v h i s =
-    let below = place_below sides v (in_box_lem sides v i) in
-    let most = count_most sides s in
-    let five = bound_most (length sides) 5 h in
+pub last_on_axis : (sides : List ℕ) (v : List ℤ) → InBox sides v → 1 ≤ length sides → on_axis (get_or sides (length sides - 1) 0) (get_or v (length v - 1) (pos 0)) ≡ true
+last_on_axis sides v b h =
+    let axes = b.axes in
+    let e : length v - 1 ≡ length sides - 1 = omega arith in
+    rw e (b.each (length sides - 1) (omega arith))
+
+-- what one axis more adds, where it comes last
+
+further : (a c p v q w : ℕ) → p + v ≡ q + w → a + c * p + c * v ≡ a + c * q + c * w
+further a c p v q w e =
+    let l = mul-add c p v in
+    let r = mul-add c q w in
+    let m = ap (λ n. c * n) e in
     omega arith
+
+place_ended : (ss : List ℕ) (s : ℕ) (xs : List ℤ) (x : ℤ) (n : ℕ) → length xs ≡ length ss → place_number (ss ++ s ∷ []) (xs ++ x ∷ []) + vertex_count (ss ++ s ∷ []) * n ≡ place_number ss xs + vertex_count ss * (nat_abs x + (s + 1) * n)
+place_ended [] s [] x n e =
+    let a = mul-one (s + 1) in
+    let b = mul-zero (s + 1) in
+    let c = one-mul (nat_abs x + (s + 1) * n) in
+    rw (a, b, c) (omega arith)
+place_ended [] s (y ∷ ys) x n e = absurd (omega arith)
+place_ended (t ∷ ss) s [] x n e = absurd (omega arith)
+place_ended (t ∷ ss) s (y ∷ xs) x n e =
+    let m = nat_abs x + (s + 1) * n in
+    rw (mul_assoc (t + 1) (vertex_count (ss ++ s ∷ [])) n, mul_assoc (t + 1) (vertex_count ss) m)
+    (further (nat_abs y) (t + 1) (place_number (ss ++ s ∷ []) (xs ++ x ∷ [])) (vertex_count (ss ++ s ∷ []) * n) (place_number ss xs) (vertex_count ss * m) (place_ended ss s xs x n (omega arith)))
+
+-- the number along all axes and those after them, from the last axis on
+pub place_last : (ss : List ℕ) (v : List ℤ) (n : ℕ) → 1 ≤ length ss → length v ≡ length ss → place_number ss v + vertex_count ss * n ≡ place_number (Before ss) (Before v) + vertex_count (Before ss) * (nat_abs (get_or v (length v - 1) (pos 0)) + (get_or ss (length ss - 1) 0 + 1) * n)
+place_last ss v n h e =
+    let long = length-before ss in
+    let wide = length-before v in
+    let s = before_last ss 0 h in
+    let x = before_last v (pos 0) (omega arith) in
+    ap₂ (λ rs ys. place_number rs ys + vertex_count rs * n) s x
+    ∙ place_ended (Before ss) (get_or ss (length ss - 1) 0) (Before v) (get_or v (length v - 1) (pos 0)) n (omega arith)
+
+-- one axis more in a bound by powers of 1,001
+pub bound_more : (s x p n : ℕ) → x ≤ s → s ≤ 1000 → p < 1001 ^ n → x + (s + 1) * p < 1001 ^ (n + 1)
+bound_more s x p n xs sl pn =
+    let a : (s + 1) * p ≤ 1001 * p = mul-le-mul_right p (omega arith) in
+    rw (add-one n, pow-succ' 1001 n) (omega arith)
 
 -- a frame's box has fewer than 2^60 vertices
 

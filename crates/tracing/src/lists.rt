@@ -1,6 +1,6 @@
 // Lists without repeats, of records that can tell sameness, over a slice that the caller lends.
 ghost use Rattle.std.specs.Prelude.{◌≡◌, ◌+◌, ◌≤◌, ◌↔◌, min, Bool, true, Ok, Err, is_ok, length, take, if◌then◌else◌, nat_lt, slice_set, position};
-ghost use Rattle.grid.specs.declared.refusals.Refusal.TheVariants.{NoPlaceUnused};
+ghost use Rattle.grid.specs.Refusals.{answered, refusal};
 ghost use Rattle.tracing.specs.Search.{lowest_place, usable};
 
 use grid::Refusal;
@@ -55,7 +55,7 @@ impl<'a, R: Same + Drop> Listed<'a, R> {
 
     // Puts the record at the first unused place. If there is none, nothing changes.
     pub fn append(&mut self, record: R) -> Result<(), Refusal>
-        ensures answer { result ≡ (if nat_lt self.old.count (usable self.old.places.now) then Ok tt else Err NoPlaceUnused) }
+        ensures answer { answered (λ x. x) result ≡ (if nat_lt self.old.count (usable self.old.places.now) then Ok tt else Err (refusal 7)) }
         ensures counted { self.new.count ≡ (if is_ok result then self.old.count + 1 else self.old.count) }
         ensures written { self.new.places.now ≡ (if is_ok result then slice_set self.old.places.now self.old.count «record» else self.old.places.now) }
         ensures lent { self.new.places.ghost_name ≡ self.old.places.ghost_name }

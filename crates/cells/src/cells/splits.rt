@@ -34,13 +34,14 @@ impl Cell {
     fn count_of_part(&self, p: u8) -> u32
         ensures { result ≡ length (splits_of self.now.plain p) }
     {
-        proper_sets(
-            self.plain
-                .labels
-                .iter()
-                .filter(|label| **label == p)
-                .count(),
-        )
+        // Counted in a loop: by filter and count this took twice as long.
+        let mut size = 0;
+        for label in &self.plain.labels {
+            if *label == p {
+                size += 1;
+            }
+        }
+        proper_sets(size)
     }
 
     // Split t of part p: sets are numbered as the numbers that are spread, the empty one left out.

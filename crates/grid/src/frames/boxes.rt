@@ -1,5 +1,5 @@
 // The box of a frame: axis j runs from 0 to side j, both ends in it.
-ghost use Rattle.std.specs.Prelude.{◌≡◌, ℕ, ◌+◌, ◌*◌, ◌^◌, ◌<◌, ◌≤◌, true, length, IfSome, slice_index, unsigned_abs};
+ghost use Rattle.std.specs.Prelude.{◌≡◌, ℕ, ◌+◌, ◌-◌, ◌*◌, ◌^◌, ◌<◌, ◌≤◌, true, length, IfSome, slice_index, unsigned_abs};
 ghost use Rattle.grid.specs.Below.{all_below};
 ghost use Rattle.grid.specs.Boxes.{axis_has, in_box, on_axis, OnlyNumber, place_answer, place_number, vertex_count};
 ghost use Rattle.grid.specs.Frames.{sides_of};
@@ -27,7 +27,7 @@ impl Frame {
         if !self.contains(vertex) {
             return None;
         }
-        Some(place_number(self.sides(), vertex.coordinates()))
+        Some(place_number(self.sides(), vertex.coordinates(), 0))
     }
 }
 
@@ -53,15 +53,16 @@ fn stacked(side: u16, x: i32, after: u64) -> u64
     u64::from(x.unsigned_abs()) + (u64::from(side) + 1) * after
 }
 
-// The number of a vertex of the box, or 0 when no axis is left.
-fn place_number(sides: &[u16], at: &[i32]) -> u64
+// The number of a vertex of the box, from the last axis to the first: `after` is the number along the axes after these.
+fn place_number(sides: &[u16], at: &[i32], after: u64) -> u64
     requires within { in_box sides.now at.now ≡ true }
-    requires axes { length sides.now ≤ 6 }
     requires short { (j : ℕ) → j < length sides.now → slice_index sides.now j ≤ 1000 }
-    ensures { result ≡ place_number sides.now at.now }
+    requires after_below { after < 1001 ^ (6 - length sides.now) }
+    requires axes { length sides.now ≤ 6 }
+    ensures { result ≡ place_number sides.now at.now + vertex_count sides.now * after }
 {
     match (sides, at) {
-        ([side, sides @ ..], [x, at @ ..]) => stacked(*side, *x, place_number(sides, at)),
-        _ => 0,
+        ([sides @ .., side], [at @ .., x]) => place_number(sides, at, stacked(*side, *x, after)),
+        _ => after,
     }
 }
