@@ -12,7 +12,7 @@ impl VertexValues {
     pub(crate) fn signed_determinants(&self) -> [i64; 4]
         ensures { result ≡ table 4 (signed_determinant self.now.k (value self.now.at)) }
     {
-        // Filled in a loop: with `from_fn` the class of a matrix took four times as long where k is known.
+        // Filled in a loop: with `from_fn` a call that writes k out took twice as many instructions for a class.
         let mut signed = [0; 4];
         for (i, place) in signed.iter_mut().enumerate() {
             *place = alternated(i, self.without(i));

@@ -16,7 +16,7 @@ pub(crate) struct VertexValues {
 
 impl VertexValues {
     // From numbers written vertex by vertex, k at each, which this joins. None if k is not 1 to 3, or if there are more numbers or fewer.
-    // Inlined, like what decides the class, so that a caller that writes k out gets the code for that k alone.
+    // Inlined, like what decides the class, so that a call that writes k out becomes the code for that k alone.
     #[inline(always)]
     pub(crate) fn new(k: u8, values: &[i16]) -> Option<VertexValues>
         ensures shaped { is_some result ≡ is_shaped k values.now }
