@@ -50,7 +50,7 @@ impl<F: Field> Field for Window<F> {
     }
 }
 
-// A vertex of the box plus the corner. Inlined, so that `at` makes no frame and no vertex in memory.
+// A vertex of the box plus the corner. Inlined, since a question to a window took nearly twice as many instructions without.
 #[inline(always)]
 fn moved(frame: &Frame, vertex: &Vertex, corner: &[u16; 6]) -> Option<Vertex>
     ensures { option_map coordinates_of result ≡ (if in_box (sides_of frame.now) (coordinates_of vertex.now) then Some (plus_corner (coordinates_of vertex.now) corner.now) else None) }

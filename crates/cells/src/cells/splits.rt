@@ -34,7 +34,7 @@ impl Cell {
     fn count_of_part(&self, p: u8) -> u32
         ensures { result ≡ length (splits_of self.now.plain p) }
     {
-        // Counted in a loop: by filter and count this took twice as long.
+        // Counted in a loop: by filter and count, `cofacets` took twice as many instructions.
         let mut size = 0;
         for label in &self.plain.labels {
             if *label == p {
